@@ -1,5 +1,5 @@
 -- Where the token, the lock's place and what is known come from, part by part of a step.
-use Rattle.std.proofs.Common.{◌≡◌, Bool, true, false, not, List, [], ◌∷◌, ◌++◌, refl, sym, ap, ◌∙◌, ◌⊎◌, inl, inr, arith}
+use Rattle.std.proofs.Common.{◌≡◌, Bool, true, false, not, List, [], ◌∷◌, ◌++◌, refl, sym, ap, ◌∙◌, ◌⊎◌, inl, inr, arith, subst}
 use Rattle.std.specs.Prelude.{◌&&◌, if◌then◌else◌, Option, Some, None}
 use Rattle.std.specs.Option.{unwrap_or}
 use Rattle.line_laws.specs.declared.words.Side.{Side}
@@ -279,6 +279,24 @@ step_lock side up seen items end right =
     (ap (λ (lock : Position). lock_after seen.drive (step_between side up seen items (noticed seen (lock_moved seen end))).end.token lock)
     (between_lock side up seen items (noticed seen (lock_moved seen end)) ∙ noticed_lock seen (lock_moved seen end)))
     ∙ right)
+
+-- a lock after both looks at it lies where it lay, or where it is driven
+moved_cases : (drive : Option Position) (before after : Bool) (old : Position)
+    → (lock_after drive after (lock_after drive before old) ≡ old) ⊎ (drive ≡ Some (lock_after drive after (lock_after drive before old)))
+moved_cases None before after old = inl refl
+moved_cases (Some Left) before after old = inr refl
+moved_cases (Some Right) true true old = inr refl
+moved_cases (Some Right) true false old = inr refl
+moved_cases (Some Right) false true old = inr refl
+moved_cases (Some Right) false false old = inl refl
+
+pub step_moved : (side : Side) (up : Bool) (seen : Seen) (items : List Item) (end : End)
+    → ((step side up seen items end).end.lock ≡ end.lock) ⊎ (seen.drive ≡ Some (step side up seen items end).end.lock)
+step_moved side up seen items end =
+    let looked : End = noticed seen (lock_moved seen end)
+    in let after : Bool = (step_between side up seen items looked).end.token
+    in let Moved : Position → Type 0 = λ mid. (lock_after seen.drive after mid ≡ end.lock) ⊎ (seen.drive ≡ Some (lock_after seen.drive after mid))
+    in subst Moved (sym (between_lock side up seen items looked ∙ noticed_lock seen (lock_moved seen end))) (moved_cases seen.drive end.token after end.lock)
 
 -- ---- the file
 

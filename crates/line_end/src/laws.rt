@@ -1,6 +1,6 @@
 //! What a step says and does, in the words of its rules.
 
-ghost use Rattle.std.specs.Prelude.{◌≡◌, Bool, List, [], None, Some, false, true};
+ghost use Rattle.std.specs.Prelude.{◌≡◌, ◌⊎◌, Bool, List, [], None, Some, false, true};
 ghost use Rattle.std.specs.Option.{unwrap_or};
 ghost use Rattle.line_laws.specs.declared.words.Side.{Side};
 ghost use Rattle.line_laws.specs.declared.words.Position.TheVariants.{Right};
@@ -30,6 +30,12 @@ pub fn token_comes_by_give_or_none()
 pub fn lock_comes_by_drive_and_token()
     ensures { (side : Side) (up : Bool) (seen : Seen) (items : List Item) (end : End) → let new = (step side up seen items end).end
         in new.lock ≡ Right → LockComes seen end new }
+{}
+
+/// The lock moves only where it is driven, to where it is driven.
+pub fn lock_moves_only_where_driven()
+    ensures { (side : Side) (up : Bool) (seen : Seen) (items : List Item) (end : End) → let new = (step side up seen items end).end
+        in (new.lock ≡ end.lock) ⊎ (seen.drive ≡ Some new.lock) }
 {}
 
 /// The line comes to be known empty only by a Clear, and only while the own part is free.

@@ -11,8 +11,9 @@ mod seen;
 
 pub use kept::Kept;
 pub use laws::{
-    empty_comes_by_clear, lock_comes_by_drive_and_token, token_comes_by_give_or_none,
-    unlinked_end_is_silent, what_has_changed_is_written, what_is_said_is_true,
+    empty_comes_by_clear, lock_comes_by_drive_and_token, lock_moves_only_where_driven,
+    token_comes_by_give_or_none, unlinked_end_is_silent, what_has_changed_is_written,
+    what_is_said_is_true,
 };
 pub use line_end::LineEnd;
 pub use line_laws::{Item, Position, Side};

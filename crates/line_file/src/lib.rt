@@ -16,6 +16,3 @@ pub use reader::read;
 pub use sci_telegram::Name;
 pub use whole_file::{NotKept, Place};
 pub use writer::{Text, write};
-
-// What crates above need of the crates below.
-pub use whole_file;

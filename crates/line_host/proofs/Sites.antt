@@ -1,6 +1,9 @@
--- What a host asks for, and its steps as moves of the line.
-use Rattle.std.proofs.Common.{◌≡◌, ℕ, Bool, true, false, cond, List, [], ◌∷◌, Option, Some, None, refl, sym, ap, ◌∙◌}
-use Rattle.std.specs.Prelude.{map}
+-- The file of a host, and its steps as moves of the line.
+use Rattle.std.proofs.Common.{◌≡◌, ◌⊎◌, ⊎_elim, inl, inr, ℕ, Bool, true, false, cond, List, [], ◌∷◌, Option, Some, None, refl, sym, ap, ◌∙◌}
+use Rattle.std.specs.Prelude.{map, Result}
+use Rattle.whole_file.specs.declared.call.NotKept.{NotKept}
+use Rattle.whole_file.specs.Calls.{Made, failed_call, recorded}
+use Rattle.line_laws.specs.declared.words.Side.{Side}
 use Rattle.line_laws.specs.declared.words.Position.{Position}
 use Rattle.line_laws.specs.declared.words.Position.TheVariants.{Left, Right}
 use Rattle.line_laws.specs.declared.words.Item.{Item}
@@ -12,17 +15,18 @@ use Rattle.line_laws.specs.Line.{Node, Gives, Whole, right_rules, file_after, it
 use Rattle.line_end.specs.State.{EndState, StepOutput, changed_file, output, stepped}
 use Rattle.rasta_core.specs.Clock.{settled}
 use Rattle.line_host.specs.Talk.{TalkState, is_joined, meeting, giving_all}
-use Rattle.line_host.specs.Host.{HostState, HostHeard, left, begun, given, heard_by, looked, to_do, ticked, told, writes, emptied, file_then, host_step}
-use Rattle.line_host.specs.Moves.{IsNear}
+use Rattle.line_host.specs.Host.{HostState, HostHeard, left, begun, given, heard_by, looked, to_do, ticked, told, writes, emptied, file_calls, host_step, new_host}
+use Rattle.line_host.specs.Sites.{Site, StepMade, kept_file, is_kept, gone_on, site_after, all_after, IsFileKept, IsNear}
 use Rattle.line_host.specs.declared.input.Input.{Input}
 use Rattle.line_host.specs.declared.input.Input.TheVariants as inputs
+use Rattle.line_host.specs.declared.parties.Parties.{Parties}
 
 -- ---- the file
 
-changed_kept : (old new : File) → file_then (changed_file old new) old ≡ new
+changed_kept : (old new : File) → kept_file (changed_file old new) old ≡ new
 changed_kept old new = by_values old.token new.token old.lock new.lock
   where
-    by_values : (token other : Bool) (lock place : Position) → file_then (changed_file (record { token = token; lock = lock }) (record { token = other; lock = place })) (record { token = token; lock = lock }) ≡ record { token = other; lock = place }
+    by_values : (token other : Bool) (lock place : Position) → kept_file (changed_file (record { token = token; lock = lock }) (record { token = other; lock = place })) (record { token = token; lock = lock }) ≡ record { token = other; lock = place }
     by_values true true Left Left = refl
     by_values true true Left Right = refl
     by_values true true Right Left = refl
@@ -66,12 +70,38 @@ step_file : (now : ℕ) (input : Input) (seen : Seen) (host : HostState)
 unfolding host_step
 step_file now input seen host = left_file (gone_from now input seen (heard_by now input host))
 
-pub asked_is_had : (now : ℕ) (input : Input) (seen : Seen) (host : HostState)
-    → file_then (writes now input seen host) (file_of host.end.end) ≡ file_of (host_step now input seen host).end.end
-asked_is_had now input seen host =
+pub kept_step : (now : ℕ) (input : Input) (seen : Seen) (host : HostState) (file : File) → file ≡ file_of host.end.end
+    → kept_file (writes now input seen host) file ≡ file_of (host_step now input seen host).end.end
+kept_step now input seen host file is =
     let heard = heard_by now input host
-    in ap (file_then (writes now input seen host)) (sym (begun_file now host) ∙ sym (given_file now input (begun now host)))
+    in let begins : file ≡ file_of heard.host.end.end = is ∙ (sym (begun_file now host) ∙ sym (given_file now input (begun now host)))
+    in ap (kept_file (writes now input seen host)) begins
     ∙ (changed_kept (file_of heard.host.end.end) (file_of (looked seen heard).end.end) ∙ sym (step_file now input seen host))
+
+gone_kept : (made : StepMade) (site : Site) → site.file ≡ file_of site.host.end.end → IsFileKept (gone_on made site)
+gone_kept made site is = by_call (is_kept (writes made.now made.input made.seen (emptied site.host)) made.failing)
+  where
+    by_call : (kept : Bool) → IsFileKept (cond kept
+        (record { host = host_step made.now made.input made.seen (emptied site.host); file = kept_file (writes made.now made.input made.seen (emptied site.host)) site.file })
+        (record site { host = record (emptied site.host) { over = true } }))
+    by_call true = λ going. kept_step made.now made.input made.seen (emptied site.host) site.file is
+    by_call false = λ going. absurd (cc (going))
+
+after_kept : (made : StepMade) (site : Site) → IsFileKept site → IsFileKept (site_after made site)
+after_kept made site kept = by_over site.host.over refl
+  where
+    by_over : (over : Bool) → site.host.over ≡ over → IsFileKept (cond over site (gone_on made site))
+    by_over true is = kept
+    by_over false is = gone_kept made site (kept is)
+
+run_kept : (steps : List StepMade) (site : Site) → IsFileKept site → IsFileKept (all_after steps site)
+run_kept [] site kept = kept
+run_kept (made ∷ others) site kept = run_kept others (site_after made site) (after_kept made site kept)
+
+pub left_on_disk : (parties : Parties) (first_sequence_number now version : ℕ) (file : File) (steps : List StepMade)
+    → IsFileKept (all_after steps (record { host = new_host parties first_sequence_number now version file; file = file }))
+left_on_disk parties first_sequence_number now version file steps =
+    run_kept steps (record { host = new_host parties first_sequence_number now version file; file = file }) (λ going. refl)
 
 -- ---- out of any connection
 
@@ -142,6 +172,32 @@ hands_out seen items old inside up out same up-is is =
 
 -- ---- the whole step, in the code
 
+left_line : (host : HostState) → (left host).line ≡ host.line
+left_line host = by_test (is_joined host.talk)
+  where
+    by_test : (joined : Bool) → (cond joined host (record host { end = record host.end { end = unlinked host.end.end } })).line ≡ host.line
+    by_test true = refl
+    by_test false = refl
+
+left_side : (host : HostState) → (left host).end.side ≡ host.end.side
+left_side host = by_test (is_joined host.talk)
+  where
+    by_test : (joined : Bool) → (cond joined host (record host { end = record host.end { end = unlinked host.end.end } })).end.side ≡ host.end.side
+    by_test true = refl
+    by_test false = refl
+
+begun_owner : (now : ℕ) (host : HostState) → ((begun now host).line ≡ host.line) × ((begun now host).end.side ≡ host.end.side)
+unfolding begun
+begun_owner now host =
+    let settled_host : HostState = record host { talk = meeting now (record host.talk { link = settled now host.talk.link }) }
+    in (left_line settled_host, left_side settled_host)
+
+given_owner : (now : ℕ) (input : Input) (host : HostState) → ((given now input host).host.line ≡ host.line) × ((given now input host).host.end.side ≡ host.end.side)
+unfolding given
+given_owner now inputs.Tick host = (refl, refl)
+given_owner now (inputs.Datagram bytes) host = (refl, refl)
+given_owner now inputs.Look host = (refl, refl)
+
 heard_so : (now : ℕ) (input : Input) (old h0 h1 h2 : HostState) (items slice : List Item) → h0 ≡ emptied old → h1 ≡ begun now h0
     → record { host = h2; items = items } ≡ given now input h1 → slice ≡ items → record { host = h2; items = slice } ≡ heard_by now input (emptied old)
 heard_so now input old h0 h1 h2 items slice h0-is h1-is given-is slice-is =
@@ -158,8 +214,63 @@ step_done now input seen old h0 h1 h2 items slice h3 out said last h0-is h1-is g
     ∙ (ap (λ (l : List Item). told now input l h3) (said-is ∙ ap (λ (o : StepOutput). o.items) (out-is ∙ ap (to_do seen) heard))
     ∙ ap (λ (h : HostState). told now input (to_do seen (heard_by now input (emptied old))).items h) (h3-is ∙ ap (looked seen) heard))
 
-pub step_asks : (now : ℕ) (input : Input) (seen : Seen) (old h0 h1 h2 : HostState) (items slice : List Item) (out : StepOutput) (written : Option File)
+pub file_done : {T : Type 0} (now : ℕ) (input : Input) (seen : Seen) (old h0 h1 h2 : HostState) (items slice : List Item) (h3 : HostState) (out : StepOutput)
+    (written : Option File) (answer result : Result T NotKept) (calls before : Option (List Made))
+    → h0 ≡ emptied old → h1 ≡ begun now h0 → record { host = h2; items = items } ≡ given now input h1 → slice ≡ items
+    → h3 ≡ looked seen (record { host = h2; items = slice }) → out ≡ to_do seen (record { host = h2; items = slice }) → written ≡ out.written
+    → answer ≡ result → calls ≡ recorded (file_calls h3.line h3.end.side written (failed_call answer)) before
+    → calls ≡ recorded (file_calls old.line old.end.side (writes now input seen (emptied old)) (failed_call result)) before
+file_done {T} now input seen old h0 h1 h2 items slice h3 out written answer result calls before h0-is h1-is given-is slice-is h3-is out-is written-is answer-is calls-are =
+    let heard = heard_so now input old h0 h1 h2 items slice h0-is h1-is given-is slice-is
+    in let looks-is : h3 ≡ looked seen (heard_by now input (emptied old)) = h3-is ∙ ap (looked seen) heard
+    in let from-begun = given_owner now input (begun now (emptied old))
+    in let from-old = begun_owner now (emptied old)
+    in let line-is : h3.line ≡ old.line = ap (λ (h : HostState). h.line) looks-is ∙ (from-begun.0 ∙ from-old.0)
+    in let side-is : h3.end.side ≡ old.end.side = ap (λ (h : HostState). h.end.side) looks-is ∙ (from-begun.1 ∙ from-old.1)
+    in let file-is : written ≡ writes now input seen (emptied old) = written-is ∙ ap (λ (o : StepOutput). o.written) (out-is ∙ ap (to_do seen) heard)
+    in calls-are
+    ∙ (ap (λ (l : List ℕ). recorded (file_calls l h3.end.side written (failed_call answer)) before) line-is
+    ∙ (ap (λ (s : Side). recorded (file_calls old.line s written (failed_call answer)) before) side-is
+    ∙ (ap (λ (f : Option File). recorded (file_calls old.line old.end.side f (failed_call answer)) before) file-is
+    ∙ ap (λ (a : Result T NotKept). recorded (file_calls old.line old.end.side (writes now input seen (emptied old)) (failed_call a)) before) answer-is)))
+
+-- ---- a host that isn't over goes on
+
+left_over : (host : HostState) → (left host).over ≡ host.over
+left_over host = by_test (is_joined host.talk)
+  where
+    by_test : (joined : Bool) → (cond joined host (record host { end = record host.end { end = unlinked host.end.end } })).over ≡ host.over
+    by_test true = refl
+    by_test false = refl
+
+begun_over : (now : ℕ) (host : HostState) → (begun now host).over ≡ host.over
+unfolding begun
+begun_over now host = left_over (record host { talk = meeting now (record host.talk { link = settled now host.talk.link }) })
+
+given_over : (now : ℕ) (input : Input) (host : HostState) → (given now input host).host.over ≡ host.over
+unfolding given
+given_over now inputs.Tick host = refl
+given_over now (inputs.Datagram bytes) host = refl
+given_over now inputs.Look host = refl
+
+pub step_over : (now : ℕ) (input : Input) (seen : Seen) (host : HostState) → (host_step now input seen host).over ≡ host.over
+unfolding host_step
+step_over now input seen host = left_over (gone_from now input seen (heard_by now input host)) ∙ (given_over now input (begun now host) ∙ begun_over now host)
+
+pub writes_done : (now : ℕ) (input : Input) (seen : Seen) (old h0 h1 h2 : HostState) (items slice : List Item) (out : StepOutput) (written : Option File)
     → h0 ≡ emptied old → h1 ≡ begun now h0 → record { host = h2; items = items } ≡ given now input h1 → slice ≡ items
     → out ≡ to_do seen (record { host = h2; items = slice }) → written ≡ out.written → written ≡ writes now input seen (emptied old)
-step_asks now input seen old h0 h1 h2 items slice out written h0-is h1-is given-is slice-is out-is written-is =
+writes_done now input seen old h0 h1 h2 items slice out written h0-is h1-is given-is slice-is out-is written-is =
     written-is ∙ ap (λ (o : StepOutput). o.written) (out-is ∙ ap (to_do seen) (heard_so now input old h0 h1 h2 items slice h0-is h1-is given-is slice-is))
+
+-- the lock moves only where it is driven
+pub step_moves : ((side : Side) (up : Bool) (seen : Seen) (items : List Item) (end : End) → let new = (step side up seen items end).end
+    in (new.lock ≡ end.lock) ⊎ (seen.drive ≡ Some new.lock)) → (now : ℕ) (input : Input) (seen : Seen) (host : HostState)
+    → ((host_step now input seen host).end.end.lock ≡ host.end.end.lock) ⊎ (seen.drive ≡ Some (host_step now input seen host).end.end.lock)
+step_moves law now input seen host =
+    let heard = heard_by now input host
+    in let new : (host_step now input seen host).end.end.lock ≡ (step heard.host.end.side (is_joined heard.host.talk) seen heard.items heard.host.end.end).end.lock =
+    ap (λ (f : File). f.lock) (step_file now input seen host)
+    in let old : heard.host.end.end.lock ≡ host.end.end.lock = ap (λ (f : File). f.lock) (given_file now input (begun now host) ∙ begun_file now host)
+    in ⊎_elim (λ same. inl (new ∙ (same ∙ old))) (λ driven. inr (driven ∙ ap Some (sym new)))
+    (law heard.host.end.side (is_joined heard.host.talk) seen heard.items heard.host.end.end)

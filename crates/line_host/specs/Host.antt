@@ -1,17 +1,20 @@
 -- The host of an end of a line, and its step.
-use Rattle.std.specs.Prelude.{ℕ, Bool, true, not, ◌&&◌, if◌then◌else◌, List, [], Option, Some, None}
+use Rattle.std.specs.Prelude.{◌≡◌, ℕ, Bool, true, false, not, ◌&&◌, if◌then◌else◌, List, [], ◌∷◌, Option, Some, None}
 use Rattle.rasta_core.specs.Clock.{settled}
 use Rattle.rasta_core.specs.Calls.{created}
 use Rattle.rasta_core.specs.identity.Identity.{Identity}
 use Rattle.rasta_core.specs.identity.Role.{Role}
 use Rattle.rasta_core.specs.identity.Role.TheVariants as role
 use Rattle.rasta_core.specs.Outbox.{OutboxState}
+use Rattle.whole_file.specs.declared.call.Call.{Call}
+use Rattle.whole_file.specs.Calls.{Made, keep_calls}
 use Rattle.line_laws.specs.declared.words.Side.{Side}
 use Rattle.line_laws.specs.declared.words.Side.TheVariants.{First, Second}
 use Rattle.line_laws.specs.declared.words.Item.{Item}
 use Rattle.line_laws.specs.End.{File, Seen, made_anew, unlinked}
 use Rattle.line_end.specs.State.{EndState, StepOutput, output, stepped}
 use Rattle.line_telegram.specs.Greetings.{new_greeting}
+use Rattle.line_file.specs.EndFiles.{writing}
 use Rattle.line_host.specs.Talk.{TalkState, is_joined, giving_all, meeting, hearing_datagram, beating, opened}
 use Rattle.line_host.specs.declared.parties.Parties.{Parties}
 use Rattle.line_host.specs.declared.report.Report.{Report}
@@ -21,8 +24,12 @@ use Rattle.line_host.specs.declared.input.Input.TheVariants as inputs
 pub record HostState : Type 0 where
   pub talk : TalkState
   pub end : EndState
+  -- the name of the line, which its file has
+  pub line : List ℕ
   -- a contact was occupied when the end looked last
   pub busy : Bool
+  -- its file couldn't be kept
+  pub over : Bool
 
 -- ---- the parts of a step, in their order
 
@@ -69,16 +76,16 @@ heard_by now input host = given now input (begun now host)
 abbrev pub writes : ℕ → Input → Seen → HostState → Option File
 writes now input seen host = (to_do seen (heard_by now input host)).written
 
--- what a file has that had this, once it was given what it is to have, if anything
-abbrev pub file_then : Option File → File → File
-file_then None file = file
-file_then (Some new) file = new
+-- the calls by which the file is kept, if it is to be
+abbrev pub file_calls : (line : List ℕ) → Side → Option File → Option Call → List Made
+file_calls line side None failing = []
+file_calls line side (Some file) failing = keep_calls (writing line side file) failing
 
 -- what is given to the link then
 abbrev pub told : ℕ → Input → List Item → HostState → HostState
 told now input items host = left (record host { talk = ticked now input (giving_all now items host.talk) })
 
--- All of it. Nothing of it leaves before the file has what it is to have.
+-- a step of which the file was kept, or needn't be
 unfoldable pub host_step : ℕ → Input → Seen → HostState → HostState
 host_step now input seen host =
     let heard = heard_by now input host in told now input (to_do seen heard).items (looked seen heard)
@@ -108,7 +115,9 @@ new_host parties first_sequence_number now version file = record {
     outbox = record { datagrams = []; capacity = 128 };
   };
   end = record { side = parties.side; end = made_anew file };
+  line = parties.line;
   busy = true;
+  over = false;
 }
 
 -- ---- what is told to the station and the operator
@@ -121,3 +130,7 @@ report_of host = record {
   asked = host.end.end.asked;
   joined = is_joined host.talk;
 }
+
+-- an end that is over tells nothing
+abbrev pub reported : HostState → Option Report
+reported host = if host.over then None else Some (report_of host)

@@ -1,5 +1,6 @@
-//! The host of an end of a line: its link, the greeting with which a connection begins, and the end itself. Where the
-//! token came or went, or the lock moved, a step answers what the end's file is to have before anything of it leaves.
+//! The host of an end of a line: its link, the greeting with which a connection begins, the end itself, and its file.
+//! Where the token came or went, or the lock moved, the file is kept before anything of the step leaves; where that
+//! fails nothing leaves, and the end is over.
 #![tactic(auto)]
 
 mod input;
@@ -10,14 +11,11 @@ mod report;
 mod talk;
 
 pub use input::Input;
-pub use laws::{a_step_asks_for_what_the_end_has, looks_are_moves, unjoined_end_is_unlinked};
-pub use line_end::{Kept, Position, Seen, Side};
+pub use laws::{looks_are_moves, unjoined_end_is_unlinked, what_left_was_on_disk};
+pub use line_end::{Position, Seen, Side};
+pub use line_file::{FileFault, Name};
 pub use line_host::LineHost;
 pub use parties::Parties;
 pub use rasta_core::{Millis, Start};
-pub use rasta_pdu::{Datagram, Key};
 pub use report::Report;
-pub use sci_telegram::Name;
-
-// What crates above need of the crates below.
-pub use line_laws;
+pub use whole_file::{NotKept, Place};

@@ -1,31 +1,38 @@
 //! The host of an end of a line.
 
-ghost use Rattle.std.specs.Prelude.{◌≡◌, ◌↔◌, ◌≤◌, true, false, [], IfOk, IsTrue, drop, length, slice_get};
+ghost use Rattle.std.specs.Prelude.{◌≡◌, ◌↔◌, ◌≤◌, ◌⊎◌, ℕ, true, false, [], Some, None, Ok, IfOk, IfErr, IfSome, IsOk, IsErr, IsTrue, drop, length, slice_get};
 ghost use Rattle.std.specs.Option.{option_map};
 ghost use Rattle.rasta_core.specs.Calls.{MayStep, created};
 ghost use Rattle.rasta_core.specs.Outbox.{HasRoomFor};
+ghost use Rattle.whole_file.specs.Calls.{failed_call, recorded};
+ghost use Rattle.line_laws.specs.End.{File, file_of};
+ghost use Rattle.line_host.specs.Sites.{kept_file};
 ghost use Rattle.line_host.specs.Talk.{Stays};
-ghost use Rattle.line_host.specs.Host.{begun, emptied, given, host_step, identity_of, left, looked, new_host, report_of, ticked, to_do, told, writes};
+ghost use Rattle.line_host.specs.Host.{begun, emptied, file_calls, given, host_step, identity_of, left, looked, new_host, reported, ticked, to_do, told, writes};
 
 use crate::input::Input;
 use crate::parties::Parties;
 use crate::report::Report;
 use crate::talk::{Taken, Talk};
 use arrayvec::ArrayVec;
-use line_end::{Kept, LineEnd, Output, Seen, Side};
+use line_end::{Kept, LineEnd, Output, Seen, Side, lock_moves_only_where_driven};
+use line_file::Name;
 use line_laws::Item;
 use line_telegram::Greeting;
 use rasta_core::{Link, Millis, Outbox, Start};
 use rasta_pdu::Datagram;
 use std::alloc::{AllocError, Global};
 use std::marker::Model;
+use whole_file::{NotKept, Place};
 
-/// An end of a line with its link, and the greeting of its connection.
+/// An end of a line with its link, the greeting of its connection, and what it keeps.
 #[derive(Drop)]
 pub struct LineHost {
     talk: Talk,
     end: LineEnd,
+    line: Name,
     busy: bool,
+    over: bool,
 }
 
 impl Model for LineHost {
@@ -34,7 +41,7 @@ impl Model for LineHost {
 
     ghost Value = { HostState };
 
-    ghost view = { λ h. record { talk = h.talk; end = h.end; busy = h.busy } };
+    ghost view = { λ h. record { talk = h.talk; end = h.end; line = h.line; busy = h.busy; over = h.over } };
 
     ghost invariant = { λ h. h.talk.outbox.capacity ≡ 128 };
 }
@@ -91,7 +98,9 @@ impl LineHost {
         Ok(LineHost {
             talk,
             end: LineEnd::new(parties.side, kept),
+            line: parties.line,
             busy: true,
+            over: false,
         })
     }
 
@@ -102,12 +111,27 @@ impl LineHost {
         self.talk.link.may_step(now)
     }
 
+    /// Whether the file couldn't be kept: the end makes no more steps.
+    pub fn is_over(&self) -> bool
+        ensures { result ≡ self.now.over }
+    {
+        self.over
+    }
+
     /// Takes out all datagrams.
     fn clear(&mut self)
         ensures host { self.new ≡ emptied self.old }
         ensures room { HasRoomFor 128 self.new.talk.outbox }
     {
         self.talk.empty();
+    }
+
+    /// The file couldn't be kept: nothing leaves, and the end is over.
+    fn give_up(&mut self)
+        ensures { self.new ≡ record (emptied self.old) { over = true } }
+    {
+        self.talk.empty();
+        self.over = true;
     }
 
     /// Where the link isn't joined, the end is out of any connection.
@@ -156,12 +180,23 @@ impl LineHost {
         self.end.step(up, seen, items)
     }
 
+    /// The file of the end is kept, if it is to be.
+    fn keep<P: Place>(&self, place: &mut P, written: Option<Kept>) -> Result<(), NotKept>
+        ensures { P.calls place.new ≡ recorded (file_calls self.now.line self.now.end.side written (failed_call result)) (P.calls place.old) }
+    {
+        match written {
+            Some(kept) => line_file::keep(place, &self.line, self.end.side(), kept),
+            None => Ok(()),
+        }
+    }
+
     /// What a tick does: the heartbeat that is due, and the first end opens a link that is down.
     #[tactic(auto, using(crate::proofs::Staying::then_stays, crate::proofs::Staying::more_stays, crate::proofs::Staying::at_once), unfolding(crate::specs::Host::ticked))]
     fn tick(&mut self, now: Millis, input: &Input)
         requires clock { self.old.talk.link.clock ≡ now }
         requires room { HasRoomFor 26 self.old.talk.outbox }
         ensures host { self.new ≡ record self.old { talk = ticked now input.now self.old.talk } }
+        ensures stays { Stays now 2 self.old.talk self.new.talk }
     {
         if matches!(input, Input::Tick) {
             self.talk.beat(now);
@@ -175,7 +210,7 @@ impl LineHost {
         requires clock { self.old.talk.link.clock ≡ now }
         requires room { HasRoomFor 40 self.old.talk.outbox }
         requires few { length items.now ≤ 5 }
-        ensures host { self.new ≡ told now input.now items.now self.old }
+        ensures told { self.new ≡ told now input.now items.now self.old }
         ensures stays { Stays now 12 self.old.talk self.new.talk }
     {
         self.talk.give_all(now, items);
@@ -183,16 +218,54 @@ impl LineHost {
         self.leave();
     }
 
-    /// A step at a clock reading that hasn't fallen: the clock, the input, and then the end looks. It answers what the end's
-    /// file is to have, where the token came or went, or the lock moved. Nothing of the step, neither a datagram nor a report,
-    /// may leave before that is on disk; where it can't be kept the end is made anew from what its file has.
-    pub fn step(&mut self, now: Millis, input: &Input, seen: &Seen) -> Option<Kept>
-        requires { MayStep now self.old.talk.link }
+    /// A step at a clock reading that hasn't fallen: the clock, the input, and then the end looks. Where the token came or
+    /// went, or the lock moved, the file is kept; only then the datagrams of the step are there to be taken, and the
+    /// report. Where that fails the end is over.
+    pub fn step<P: Place>(
+        &mut self,
+        place: &mut P,
+        now: Millis,
+        input: &Input,
+        seen: &Seen,
+    ) -> Result<(), NotKept>
+        requires clock { MayStep now self.old.talk.link }
+        requires going { self.old.over ≡ false }
+        ensures done { IsOk result → self.new ≡ host_step now input.now seen.now (emptied self.old) }
+        ensures over { IsErr result → (self.new.over ≡ true) × (self.new.talk.outbox.datagrams ≡ []) }
+        ensures file { P.calls place.new ≡ recorded (file_calls self.old.line self.old.end.side (writes now input.now seen.now (emptied self.old)) (failed_call result)) (P.calls place.old) }
+    {
+        self.clear();
+        self.begin(now);
+        let items = self.give(now, input);
+        let output = self.look(seen, items.as_slice());
+        match self.keep(place, output.written()) {
+            Ok(()) => {
+                self.tell(now, input, output.items());
+                Ok(())
+            }
+            Err(fault) => {
+                self.give_up();
+                Err(fault)
+            }
+        }
+    }
+
+    /// The same step of a host whose caller keeps the file. It answers what is to be kept, if the file is to change: nothing of
+    /// the step may leave before that is on disk.
+    pub fn step_kept_by_caller(&mut self, now: Millis, input: &Input, seen: &Seen) -> Option<Kept>
+        requires clock { MayStep now self.old.talk.link }
+        requires going { self.old.over ≡ false }
         ensures host { self.new ≡ host_step now input.now seen.now (emptied self.old) }
         ensures written { result ≡ writes now input.now seen.now (emptied self.old) }
-        // So the next step may be made at any later reading.
+        // What the file has where it is kept is the token and the lock of the end, as before.
+        ensures kept { (file : File) → file ≡ file_of self.old.end.end → kept_file result file ≡ file_of self.new.end.end }
+        // The lock moves only where it is driven.
+        ensures lock { (self.new.end.end.lock ≡ self.old.end.end.lock) ⊎ (seen.now.drive ≡ Some self.new.end.end.lock) }
         ensures clock { self.new.talk.link.clock ≡ now }
+        ensures going { self.new.over ≡ false }
+        ensures few { length self.new.talk.outbox.datagrams ≤ 44 }
     {
+        lock_moves_only_where_driven();
         self.clear();
         self.begin(now);
         let items = self.give(now, input);
@@ -201,7 +274,7 @@ impl LineHost {
         output.written()
     }
 
-    /// Takes the oldest datagram of the last step out.
+    /// Takes the oldest datagram of the last step out. Of an end that is over none is left.
     pub fn take_first(&mut self) -> Option<Datagram>
         ensures value { option_map (λ d. d.items) result ≡ slice_get self.old.talk.outbox.datagrams 0 }
         ensures rest { self.new ≡ record self.old { talk = record self.old.talk { outbox = record self.old.talk.outbox { datagrams = drop 1 self.old.talk.outbox.datagrams } } } }
@@ -209,16 +282,19 @@ impl LineHost {
         self.talk.take_first()
     }
 
-    /// What the end tells its station and its operator.
-    pub fn report(&self) -> Report
-        ensures { result ≡ report_of self.now }
+    /// What the end tells its station and its operator, none where it is over.
+    pub fn report(&self) -> Option<Report>
+        ensures { result ≡ reported self.now }
     {
-        Report {
+        if self.over {
+            return None;
+        }
+        Some(Report {
             lock: self.end.lock(),
             clear: self.end.tells_clear(self.busy),
             token: self.end.has_token(),
             asked: self.end.is_asked(),
             joined: self.talk.is_joined(),
-        }
+        })
     }
 }

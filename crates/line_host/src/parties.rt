@@ -1,12 +1,14 @@
-//! Which end it is, and with whom it talks.
+//! Which end of a line it is, and with whom it talks.
 
 use line_end::Side;
 use rasta_pdu::Key;
 use sci_telegram::Name;
 
-/// Which end it is, and with whom it talks.
+/// Which end of which line it is, and with whom it talks.
 #[derive(Clone, Copy, Debug)]
 pub struct Parties {
+    /// The name of the line.
+    pub line: Name,
     /// The first end is the client of the line's link.
     pub side: Side,
     /// The own identity.

@@ -1,6 +1,6 @@
 -- Calls one after another.
 use Rattle.std.proofs.Common.{◌≡◌, ◌≤◌, ℕ, List, [], ◌∷◌, ◌++◌, Option, Some, None, refl, sym, ap, ◌∙◌, subst, append_assoc, append-nil, arith}
-use Rattle.node_network.specs.node_drive.Calls.{Call, Calls, Grows, Reads, Rises, Told}
+use Rattle.node_drive.specs.Calls.{Call, Calls, Grows, Reads, Rises, Told}
 
 grows_none : {A : Type 0} (told : Option (List A)) → Grows told told []
 grows_none None = tt

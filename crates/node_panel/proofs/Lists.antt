@@ -13,7 +13,7 @@ use Rattle.panel_desk.specs.node_lines.sci_telegram.declared.message.Occupancy.{
 use Rattle.panel_desk.specs.node_lines.sci_telegram.declared.message.Side.{Side}
 use Rattle.panel_desk.specs.node_lines.declared.operator_line.Authority.{Authority}
 use Rattle.panel_desk.specs.node_lines.declared.operator_command.OperatorCommand.{OperatorCommand}
-use Rattle.node_network.specs.node_drive.Calls.{AsksLine, Call, LineHeard}
+use Rattle.node_drive.specs.Calls.{AsksLine, Call, LineHeard}
 use Rattle.panel_desk.specs.run_numbers.Metrics.{nothing_told}
 use Rattle.panel_desk.specs.node_lines.closings.Auxiliaries.{none_counted}
 use Rattle.panel_desk.specs.node_lines.closings.declared.auxiliary.AuxiliaryCounts.{AuxiliaryCounts}

@@ -1,7 +1,7 @@
 -- The question for the numbers.
 use Rattle.std.proofs.Common.{◌≡◌, Bool, true, false, List, [], ◌∷◌, Result, Ok, Err, refl}
 use Rattle.std.specs.Prelude.{OnErr, OnOk}
-use Rattle.node_network.specs.node_drive.Calls.{BreaksOff, Call, Calls, Told, Writes}
+use Rattle.node_drive.specs.Calls.{BreaksOff, Call, Calls, Told, Writes}
 use Rattle.node_panel.specs.Turns.{IsQuestion, IsQuestionIf, broken, question, whole}
 use Rattle.node_panel.proofs.CallsOn.{calls_none}
 

@@ -23,7 +23,7 @@ use Rattle.panel_desk.specs.node_lines.declared.operator_line.Known.{Known}
 use Rattle.panel_desk.specs.node_lines.declared.operator_line.Known.TheVariants.{Link, Section, Point, Signal, Indicates, Route, Released, Closing, Counted, Holding, WaitingForResume}
 use Rattle.panel_desk.specs.node_lines.declared.operator_line.LinkState.{LinkState}
 use Rattle.panel_desk.specs.node_lines.declared.operator_line.LinkState.TheVariants.{Ready, Lost}
-use Rattle.node_network.specs.node_drive.Calls.{LineHeard, Text, Nothing, Closed}
+use Rattle.node_drive.specs.Calls.{LineHeard, Text, Nothing, Closed}
 use Rattle.panel_desk.specs.node_lines.closings.Auxiliaries.{none_counted}
 use Rattle.panel_desk.specs.node_lines.closings.declared.auxiliary.Auxiliary.{Auxiliary}
 use Rattle.panel_desk.specs.node_lines.closings.declared.auxiliary.Auxiliary.TheVariants.{Release, Open}

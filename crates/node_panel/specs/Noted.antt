@@ -2,7 +2,7 @@
 -- tells of its file of closings. All else stands in the picture, or says nothing.
 use Rattle.std.specs.Prelude.{ℕ, List, [], ◌∷◌, ◌++◌, codes, Result, Ok, Err}
 use Rattle.std.specs.Fmt.{decimal}
-use Rattle.node_network.specs.node_drive.Calls.{LineHeard, Text, Nothing, Closed}
+use Rattle.node_drive.specs.Calls.{LineHeard, Text, Nothing, Closed}
 use Rattle.panel_desk.specs.Answers.{DeskView}
 use Rattle.panel_desk.specs.Lines.{noted_at}
 use Rattle.panel_desk.specs.node_lines.Commands.{command_text}

@@ -2,7 +2,7 @@
 use Rattle.std.specs.Prelude.{◌≡◌, ◌≤◌, ◌-◌, ◌^◌, ℕ, List, [], ◌++◌, length, take, codes, Option, Some, unwrap_or}
 use Rattle.std.specs.Io.KnownBytes.{Appends}
 use Rattle.serde_json.specs.Read.{read}
-use Rattle.node_network.specs.node_drive.Calls.{Call, Calls, Told}
+use Rattle.node_drive.specs.Calls.{Call, Calls, Told}
 use Rattle.panel_desk.specs.Answers.{DeskView, access_at}
 use Rattle.panel_desk.specs.declared.desk_opened.PageAsked.{PageAsked}
 use Rattle.panel_desk.specs.node_lines.layout.Entries.{Site}

@@ -17,7 +17,7 @@ use Rattle.panel_desk.specs.node_lines.simulator_event.declared.event.Event.TheV
 use Rattle.panel_desk.specs.node_lines.Commands.{command_text}
 use Rattle.panel_desk.specs.node_lines.declared.operator_command.OperatorCommand.{OperatorCommand}
 use Rattle.panel_desk.specs.node_lines.declared.operator_command.OperatorCommand.TheVariants.{One, CancelAll}
-use Rattle.node_network.specs.node_drive.Calls.{AsksLine, AsksListener, BreaksOff, Call, LineHeard, Reads, Rests, Writes}
+use Rattle.node_drive.specs.Calls.{AsksLine, AsksListener, BreaksOff, Call, LineHeard, Reads, Rests, Writes}
 use Rattle.node_panel.specs.Heard.{HeardView, forgotten, heard_all, pictured, wants_numbers}
 use Rattle.node_panel.specs.Noted.{noted_all}
 

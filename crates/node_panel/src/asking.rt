@@ -3,13 +3,13 @@
 ghost use Rattle.std.specs.Prelude.{◌≡◌, [], ◌∷◌, List, OnOk, map};
 ghost use Rattle.std.specs.List.{flat_map};
 ghost use Rattle.std.specs.Option.{option_to_list};
-ghost use Rattle.node_network.specs.node_drive.Calls.{Call, Calls};
+ghost use Rattle.node_drive.specs.Calls.{Call, Calls};
 ghost use Rattle.node_panel.specs.Turns.{AsksEach, AsksNumbers, IsQuestion, IsQuestionIf, asked_by, requested};
 ghost use Rattle.panel_desk.specs.Boards.{Notes};
 
 use crate::heard::Heard;
 use crate::noted::note_command;
-use node_network::node_drive::Outside;
+use node_drive::Outside;
 use panel_desk::node_lines::{CommandText, OperatorCommand};
 use panel_desk::{Command, Desk, Event, Layout, PanelCommand, RouteId, StandingOrderText};
 use std::alloc::{AllocError, Global};

@@ -1,7 +1,7 @@
 //! A panel of an interlocking's node is attended.
 
 ghost use Rattle.std.specs.Prelude.{◌≡◌, ◌≤◌, ◌++◌, IfOk, List, OnOk};
-ghost use Rattle.node_network.specs.node_drive.Calls.{Call, Calls};
+ghost use Rattle.node_drive.specs.Calls.{Call, Calls};
 ghost use Rattle.node_panel.specs.Heard.{pictured};
 ghost use Rattle.node_panel.specs.Turns.{Asks, IsLived, Turns};
 ghost use Rattle.panel_desk.specs.Boards.{Notes, shown_all};
@@ -10,7 +10,7 @@ ghost use Rattle.panel_desk.specs.StandingOrders.{Tried, obeyed_all, standing_li
 use crate::asking::{ask_each, ask_numbers, ask_routes};
 use crate::heard::Heard;
 use crate::hearing::hear_lines;
-use node_network::node_drive::Outside;
+use node_drive::Outside;
 use panel_connections::{Connections, Listens};
 use panel_desk::{Checked, Desk, PanelCommand, Pictured, RouteId, StandingOrders, show_lines};
 use std::alloc::{AllocError, Global};

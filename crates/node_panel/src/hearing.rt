@@ -1,14 +1,14 @@
 //! What the node tells in a turn is heard.
 
 ghost use Rattle.std.specs.Prelude.{◌≡◌, [], ◌∷◌, List, map, IfOk, OnOk};
-ghost use Rattle.node_network.specs.node_drive.Calls.{AsksLine, Calls, LineHeard, Text};
+ghost use Rattle.node_drive.specs.Calls.{AsksLine, Calls, LineHeard, Text};
 ghost use Rattle.node_panel.specs.Heard.{heard_all, heard_by};
 ghost use Rattle.node_panel.specs.Noted.{noted_all, noted_by};
 
 use crate::heard::Heard;
 use crate::noted::note_as;
 use crate::told::read_told;
-use node_network::node_drive::{NextLine, Outside};
+use node_drive::{NextLine, Outside};
 use panel_desk::{Desk, Layout};
 use std::alloc::{AllocError, Global};
 

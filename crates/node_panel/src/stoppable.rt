@@ -2,9 +2,7 @@
 
 ghost use Rattle.std.specs.Prelude.{◌≡◌, ◌≤◌};
 
-use node_network::node_drive::{
-    BrokenOff, Fault, NextDatagram, NextLine, NodeId, Outside, ThrownAway, ToKeep,
-};
+use node_drive::{BrokenOff, Fault, NextDatagram, NextLine, NodeId, Outside, ThrownAway, ToKeep};
 use run_files::StopFile;
 use std::alloc::{AllocError, Global};
 use std::fs::Files;

@@ -47,7 +47,7 @@ fn verdicts(alloc: Global, said: &[(u8, &str)]) -> Option<Vec<Verdict>> {
     Some(verdicts)
 }
 
-/// What is said of a railway.
+/// What is said of a railway. None where memory is lacking.
 fn said(alloc: Global, row: &Row) -> Option<Verdict> {
     let written = match read_text(alloc, row.railway) {
         Ok(written) => written,
@@ -61,16 +61,18 @@ fn said(alloc: Global, row: &Row) -> Option<Verdict> {
     railway_verdict(alloc, &written, &layouts, &verdicts, row.explained).ok()
 }
 
-/// Whether this is said of it.
-fn is_said(alloc: Global, row: &Row) -> bool {
-    match said(alloc, row) {
-        Some(verdict) => {
-            verdict.status == row.status
-                && verdict.out.as_slice() == row.out.as_bytes()
-                && verdict.err.as_slice() == row.err.as_bytes()
-        }
-        None => false,
-    }
+/// Whether a row has this verdict.
+fn has(row: &Row, verdict: &Verdict) -> bool {
+    verdict.status == row.status
+        && verdict.out.as_slice() == row.out.as_bytes()
+        && verdict.err.as_slice() == row.err.as_bytes()
+}
+
+/// Checks that what is said of a railway is what its row has. Otherwise it tells what is said to be wrong.
+fn check(rt: &impl Abort, alloc: Global, row: &Row) {
+    let verdict = said(alloc, row).expect(rt, "there is memory");
+    let err = str::from_utf8(&verdict.err).unwrap_or("no text");
+    assert!(rt; has(row, &verdict), "{err}");
 }
 
 /// The railway with both ends of its line at one border.
@@ -135,7 +137,7 @@ line A: a line joins two stations
 #[test]
 fn a_railway_is_judged(rt: HostRuntime) {
     for row in RAILWAYS {
-        assert!(rt; is_said(rt.alloc(), row), "{}", row.err);
+        check(&rt, rt.alloc(), row);
     }
 }
 
@@ -179,7 +181,7 @@ fn a_text_that_is_no_railway_is_explained(rt: HostRuntime) {
             out: "",
             err,
         };
-        assert!(rt; is_said(rt.alloc(), &row), "{railway}");
+        check(&rt, rt.alloc(), &row);
     }
 }
 
@@ -196,8 +198,8 @@ const KINDS: &[(&str, bool)] = &[
 #[test]
 fn a_text_with_lines_is_a_railway(rt: HostRuntime) {
     for (text, wanted) in KINDS {
-        let is = is_railway(rt.alloc(), text).ok();
-        assert!(rt; is == Some(*wanted), "{text}");
+        let is = is_railway(rt.alloc(), text).expect(&rt, "there is memory");
+        assert!(rt; is == *wanted, "{text}");
     }
 }
 
@@ -213,9 +215,7 @@ const FILES: &[(&str, &str, &str)] = &[
 #[test]
 fn a_layout_lies_beside_its_railway(rt: HostRuntime) {
     for (railway, layout, wanted) in FILES {
-        match layout_file(rt.alloc(), railway, layout) {
-            Ok(file) => assert!(rt; file.as_str() == *wanted, "{file}"),
-            Err(_) => assert!(rt; false),
-        }
+        let file = layout_file(rt.alloc(), railway, layout).expect(&rt, "there is memory");
+        assert!(rt; file.as_str() == *wanted, "{file}");
     }
 }

@@ -1,6 +1,6 @@
 //! Faulty railways, and all that is told of each.
 
-use crate::told::is_told;
+use crate::told::told;
 use std::process::Abort;
 
 /// The tracks of a station, whose line begins at the border W.
@@ -287,21 +287,15 @@ station = { name = "CC", id = 1 }
 #[test]
 fn all_that_is_wrong_with_names_is_told(rt: HostRuntime) {
     for row in NAMES {
-        assert!(rt;
-            is_told(rt.alloc(), row.railway, row.layouts, row.told),
-            "{}",
-            row.told
-        );
+        let told = told(rt.alloc(), row.railway, row.layouts).expect(&rt, "there is memory");
+        assert!(rt; told.as_str() == row.told, "{told}");
     }
 }
 
 #[test]
 fn all_that_is_wrong_with_an_end_is_told(rt: HostRuntime) {
     for row in RULES {
-        assert!(rt;
-            is_told(rt.alloc(), row.railway, row.layouts, row.told),
-            "{}",
-            row.told
-        );
+        let told = told(rt.alloc(), row.railway, row.layouts).expect(&rt, "there is memory");
+        assert!(rt; told.as_str() == row.told, "{told}");
     }
 }

@@ -1,6 +1,6 @@
 //! The text of a railway: what it writes, and the first fault of one that writes something else.
 
-use crate::told::is_told;
+use crate::told::told;
 use std::process::Abort;
 
 /// Two stations of one shape, and the line between them.
@@ -58,7 +58,8 @@ station 1 border 2 lock 1 clear 5 id 902 part 2 4
 #[test]
 fn a_railway_is_read(rt: HostRuntime) {
     let layouts: &[&[&str]] = &[&[STATION], &[STATION]];
-    assert!(rt; is_told(rt.alloc(), RAILWAY, layouts, PLACES));
+    let told = told(rt.alloc(), RAILWAY, layouts).expect(&rt, "there is memory");
+    assert!(rt; told.as_str() == PLACES, "{told}");
 }
 
 /// Texts that are no railway's, and their first faults.
@@ -97,6 +98,7 @@ const FAULTY: &[(&str, &str)] = &[
 #[test]
 fn the_first_fault_of_a_text_is_told(rt: HostRuntime) {
     for (railway, fault) in FAULTY {
-        assert!(rt; is_told(rt.alloc(), railway, &[], fault), "{railway}");
+        let told = told(rt.alloc(), railway, &[]).expect(&rt, "there is memory");
+        assert!(rt; told.as_str() == *fault, "{told}");
     }
 }

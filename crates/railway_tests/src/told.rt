@@ -67,8 +67,8 @@ pub(crate) fn texts(alloc: Global, layouts: &[&[&str]]) -> Option<Vec<String>> {
     Some(texts)
 }
 
-/// The lines of a railway, or all that is wrong with it.
-fn told(alloc: Global, railway: &str, layouts: &[&[&str]]) -> Option<String> {
+/// The lines of a railway, or all that is wrong with it, where each layout is given by its pieces. None where memory is lacking.
+pub(crate) fn told(alloc: Global, railway: &str, layouts: &[&[&str]]) -> Option<String> {
     let written = match read_text(alloc, railway) {
         Ok(written) => written,
         Err(fault) => return format!(in alloc; "{fault}\n").ok(),
@@ -81,13 +81,5 @@ fn told(alloc: Global, railway: &str, layouts: &[&[&str]]) -> Option<String> {
         Ok(railway) => lines_told(alloc, railway.lines()),
         Err(Refused::Faults(faults)) => faults_told(alloc, &faults),
         Err(Refused::OutOfMemory) => None,
-    }
-}
-
-/// Whether this is told of a railway, where each layout is given by its pieces.
-pub(crate) fn is_told(alloc: Global, railway: &str, layouts: &[&[&str]], text: &str) -> bool {
-    match told(alloc, railway, layouts) {
-        Some(told) => told.as_str() == text,
-        None => false,
     }
 }

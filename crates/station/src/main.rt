@@ -3,25 +3,26 @@
 //! station of it, `station run FILE --script S --record R --for MS` runs one over sockets, `station panel FILE` has one operated
 //! from a browser, `station draw FILE` has one drawn there, `station replay FILE RECORD` applies a recorded session, and `station chart FILE RECORD` draws it; `station decode --hex HEX` puts a datagram into
 //! words, and `station decode FILE RECORD` those of a session, which `station capture FILE RECORD OUT` writes to a file for
-//! Wireshark; with `--node NAME` they do so with the record of a node. `station node FILE NAME --addresses ADDRESSES` runs a node of it as a process of its own. The status is 0 where this was done, 1 at a fault, 2 where the command line is wrong, and 3 where a session
+//! Wireshark; with `--node NAME` they do so with the record of a node. `station node FILE NAME --addresses ADDRESSES` runs a node of it as a process of its own; `station line begin RAILWAY LINE` writes the
+//! files with which a line between two stations begins. The status is 0 where this was done, 1 at a fault, 2 where the command line is wrong, and 3 where a session
 //! answers otherwise than it was recorded.
 #![tactic(auto)]
 
 mod draw_command;
 mod drawn_file;
+mod line_command;
 mod railway_command;
-mod railway_node;
 mod text_judge;
 
 use draw_command::draw_file;
+use line_begin::is_railway;
+use line_command::begin_line;
 use node_panel::{NodePanelOptions, panel_of_node};
 use node_record::{
     Cut as NodeCut, FoundEnds, NodeCaptureOptions, NodeRecord, capture_node_to_file,
     chart_node_text, decode_node_text, ends_text,
 };
-use railway_check::railway_layout::is_railway;
 use railway_command::check_railway;
-use railway_node::node_of_railway;
 use station_command::{
     Approach, CaptureArguments, ChartArguments, CheckArguments, DatagramArguments, DrawArguments,
     Error, Failure, NodeArguments, PanelArguments, PlanArguments, Request, RoutesArguments,
@@ -97,6 +98,7 @@ fn carry_out<W: Write>(rt: &HostRuntime, request: Request<'_>, out: &mut W) -> R
         Request::DecodeSession(arguments) => decode_session(rt, arguments, out),
         Request::Capture(arguments) => capture(rt, arguments),
         Request::Node(arguments) => node(rt, arguments),
+        Request::BeginLine(arguments) => begin_line(rt, arguments, out),
     }
 }
 
@@ -511,39 +513,21 @@ fn capture_node(rt: &HostRuntime, asked: &CaptureOptions<'_>, name: &str, ends: 
 }
 
 /// How many milliseconds a line may wait until it can be written.
-pub(crate) const PATIENCE: u16 = 50;
+const PATIENCE: u16 = 50;
 
-/// `node FILE NAME --addresses ADDRESSES [--operator ADDRESS] [--equipment ADDRESS] [--record R] [--record-size N]
-/// [--closings FILE [--keep-locks]] [--state FILE --lock ADDRESS --clear ADDRESS] [--clock MS] [--hold MS] [--for MS] [--stop-file F]`.
-/// The file has a layout or a railway. The lines of the node go over standard input and output.
+/// `node FILE NAME --addresses ADDRESSES [--operator ADDRESS] [--record R] [--record-size N] [--closings FILE [--keep-locks]]
+/// [--clock MS] [--hold MS] [--for MS] [--stop-file F]`. The lines of the node go over standard input and output.
 fn node(rt: &HostRuntime, arguments: NodeArguments<'_>) -> Result<u8, Failure> {
-    let (text, addresses) = texts_of(rt, arguments.layout, arguments.addresses)?;
-    let (text, addresses) = (text.as_str(), addresses.as_str());
-    match is_railway(rt.alloc(), text) {
-        Ok(true) => node_of_railway(rt, arguments, text, addresses),
-        Ok(false) => node_of_station(rt, arguments, text, arguments.name, addresses),
-        Err(_) => Err(Failure::OutOfMemory),
-    }
-}
-
-/// A node of a station, by the text of its layout and its name.
-pub(crate) fn node_of_station(
-    rt: &HostRuntime,
-    arguments: NodeArguments<'_>,
-    layout: &str,
-    name: &str,
-    addresses: &str,
-) -> Result<u8, Failure> {
+    let (layout, addresses) = texts_of(rt, arguments.layout, arguments.addresses)?;
     let files = RunFiles {
         record_size: arguments.record_size,
         stop_file: arguments.stop_file,
     };
     let asked = NodeOptions {
-        layout,
-        name,
-        addresses,
+        layout: layout.as_str(),
+        name: arguments.name,
+        addresses: addresses.as_str(),
         operator: arguments.operator,
-        equipment: arguments.equipment,
         record: arguments.record,
         closings: arguments.closings,
         keep_locks: arguments.keep_locks,

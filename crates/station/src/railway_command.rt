@@ -5,8 +5,9 @@ ghost use Rattle.station_run.specs.station_record.replay.layout.Entries.{Site};
 ghost use Rattle.station_run.specs.station_record.replay.station_check.Report.{IsSound};
 
 use crate::INPUT;
-use railway_check::railway_layout::{WrittenRailway, WrittenStation, read_text};
-use railway_check::{Verdict, layout_file, railway_verdict, text_verdict};
+use line_begin::{
+    Verdict, WrittenRailway, WrittenStation, layout_file, railway_verdict, read_text, text_verdict,
+};
 use station_command::{CheckArguments, Failure, text_of};
 use station_layout::explain_text;
 use station_run::check_text;
@@ -31,7 +32,7 @@ pub(crate) fn check_railway<W: Write>(
 }
 
 /// What was made, where memory was there.
-fn made<T>(made: Result<T, AllocError>) -> Result<T, Failure> {
+pub(crate) fn made<T>(made: Result<T, AllocError>) -> Result<T, Failure> {
     match made {
         Ok(made) => Ok(made),
         Err(_) => Err(Failure::OutOfMemory),
@@ -110,7 +111,7 @@ fn verdict_on(alloc: Global, layout: &str, explained: bool) -> Result<Verdict, A
 }
 
 /// What the check of each of these layouts says.
-fn verdicts_on(
+pub(crate) fn verdicts_on(
     alloc: Global,
     layouts: &[String],
     explained: bool,
@@ -123,7 +124,7 @@ fn verdicts_on(
 }
 
 /// Writes a verdict, and answers its status.
-fn tell<W: Write>(rt: &HostRuntime, verdict: &Verdict, out: &mut W) -> u8 {
+pub(crate) fn tell<W: Write>(rt: &HostRuntime, verdict: &Verdict, out: &mut W) -> u8 {
     match out.write_all(&verdict.out).and_then(|()| out.flush()) {
         Ok(()) => (),
         Err(_) => return 1,

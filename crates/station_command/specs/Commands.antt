@@ -54,6 +54,11 @@ asks_for_routes (layout ∷ signals ∷ Worded None ∷ more) = true
 asks_for_routes (layout ∷ signals ∷ Worded (Some rule) ∷ more) = bytes_eq rule (codes "signal") || bytes_eq rule (codes "berth")
 asks_for_routes _ = false
 
+-- `line` takes one word for what is done with a line
+abbrev pub asks_for_line : List Value → Bool
+asks_for_line (Worded (Some action) ∷ more) = bytes_eq action (codes "begin")
+asks_for_line _ = false
+
 -- the file of a layout, a second file, and the name or the address of a node
 abbrev pub layout : Argument
 layout = must File (codes "FILE")
@@ -93,7 +98,8 @@ commands =
     ∷ command (codes "chart") (layout ∷ second ∷ node ∷ may moment (codes "from") ∷ may moment (codes "to") ∷ [])
     ∷ record (command (codes "decode") (may Word (codes "hex") ∷ may Word (codes "layout") ∷ may File (codes "FILE") ∷ may File (codes "SECOND") ∷ node ∷ [])) { asks = asks_to_decode }
     ∷ command (codes "capture") (layout ∷ second ∷ must File (codes "OUT") ∷ may Word (codes "addresses") ∷ node ∷ may Switch (codes "force") ∷ [])
-    ∷ command (codes "node") (layout ∷ must File (codes "NAME") ∷ must Word (codes "addresses") ∷ may Word (codes "operator") ∷ may Word (codes "equipment") ∷ may Word (codes "record") ∷ record_size
-    ∷ may Word (codes "closings") ∷ may Switch (codes "keep-locks") ∷ may Word (codes "state") ∷ may Word (codes "lock") ∷ may Word (codes "clear") ∷ may (Number 0 9000000000000) (codes "clock") ∷ may (Number 0 80) (codes "hold")
+    ∷ command (codes "node") (layout ∷ must File (codes "NAME") ∷ must Word (codes "addresses") ∷ may Word (codes "operator") ∷ may Word (codes "record") ∷ record_size
+    ∷ may Word (codes "closings") ∷ may Switch (codes "keep-locks") ∷ may (Number 0 9000000000000) (codes "clock") ∷ may (Number 0 80) (codes "hold")
     ∷ may time (codes "for") ∷ stop_file ∷ [])
+    ∷ record (command (codes "line") (must File (codes "ACTION") ∷ layout ∷ must File (codes "NAME") ∷ may Switch (codes "again") ∷ [])) { asks = asks_for_line }
     ∷ []

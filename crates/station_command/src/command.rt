@@ -12,16 +12,16 @@ ghost use Rattle.station_command.specs.inside.Matches.{asked_of_rows, value_in};
 ghost use Rattle.clap.specs.declared.error.kind.ErrorKind.TheVariants as kind;
 
 use crate::command_table::{
-    ADDRESSES, APPROACH, CAPTURE, CHART, CHECK, CLEAR, CLOCK, CLOSINGS, COMPLETE, CSV, DECODE,
-    DIGEST, DRAW, EQUIPMENT, EXPLAIN, FILE, FOR, FORCE, FROM, HEX, HOLD, KEEP_LOCKS, LAYOUT, LOCK,
+    ACTION, ADDRESSES, AGAIN, APPROACH, CAPTURE, CHART, CHECK, CLOCK, CLOSINGS, COMPLETE, CSV,
+    DECODE, DIGEST, DRAW, EXPLAIN, FILE, FOR, FORCE, FROM, HEX, HOLD, KEEP_LOCKS, LAYOUT, LINE,
     NAME, NODE, OPERATOR, OUT, PANEL, PICTURE, PLAN, PORT, RECORD, RECORD_SIZE, REPLAY, ROUTE,
-    ROUTES, RUN, SCRIPT, SECOND, SIM, STATE, STOP_FILE, TABLE, TO, WRITE,
+    ROUTES, RUN, SCRIPT, SECOND, SIM, STOP_FILE, TABLE, TO, WRITE,
 };
 use crate::line::station;
 use crate::request::{
-    Approach, CaptureArguments, ChartArguments, CheckArguments, DatagramArguments, DrawArguments,
-    NodeArguments, PanelArguments, PlanArguments, Request, RoutesArguments, RunArguments,
-    SessionArguments, SimArguments, TableArguments,
+    Approach, BeginLineArguments, CaptureArguments, ChartArguments, CheckArguments,
+    DatagramArguments, DrawArguments, NodeArguments, PanelArguments, PlanArguments, Request,
+    RoutesArguments, RunArguments, SessionArguments, SimArguments, TableArguments,
 };
 use clap::error::ErrorKind;
 use clap::{ArgMatches, Command, Error};
@@ -34,10 +34,15 @@ const NOTHING_TO_DECODE: &str =
 
 const NO_RULE: &str = "routes takes --approach signal or --approach berth";
 
+const NO_ACTION: &str = "line takes begin RAILWAY LINE, with or without --again";
+
 /// The words of the two rules of approach.
 const SIGNAL: &str = "signal";
 
 const BERTH: &str = "berth";
+
+/// The word of what is done with a line.
+const BEGIN: &str = "begin";
 
 /// The value of a switch that is on.
 const ON: &str = "true";
@@ -263,19 +268,29 @@ fn node<'a>(matches: &ArgMatches<'a>) -> Option<Request<'a>>
         name: word(matches, NAME)?,
         addresses: word(matches, ADDRESSES)?,
         operator: word(matches, OPERATOR),
-        equipment: word(matches, EQUIPMENT),
         record: word(matches, RECORD),
         record_size: number_given(matches, RECORD_SIZE),
         closings: word(matches, CLOSINGS),
         keep_locks: is_on(matches, KEEP_LOCKS),
-        state: word(matches, STATE),
-        lock: word(matches, LOCK),
-        clear: word(matches, CLEAR),
         clock: number_given(matches, CLOCK),
         hold: number_given(matches, HOLD),
         for_ms: number_given(matches, FOR),
         stop_file: word(matches, STOP_FILE),
     }))
+}
+
+/// The beginning of a line that is asked for.
+fn line<'a>(matches: &ArgMatches<'a>) -> Option<Request<'a>>
+    ensures { option_map says result ≡ asked_by (value_in matches.now) (codes "line") }
+{
+    match word(matches, ACTION)? {
+        BEGIN => Some(Request::BeginLine(BeginLineArguments {
+            railway: word(matches, FILE)?,
+            line: word(matches, NAME)?,
+            again: is_on(matches, AGAIN),
+        })),
+        _ => None,
+    }
 }
 
 /// What the command of a word asks for by its matches, if for anything.
@@ -296,6 +311,7 @@ fn request_by<'a>(name: &str, matches: &ArgMatches<'a>) -> Option<Request<'a>>
         DECODE => decode(matches),
         CAPTURE => capture(matches),
         NODE => node(matches),
+        LINE => line(matches),
         _ => None,
     }
 }
@@ -312,6 +328,7 @@ fn request_in<'a>(matches: &ArgMatches<'a>) -> Option<Request<'a>>
 fn told_of_nothing(matches: &ArgMatches<'_>) -> &'static str {
     match matches.subcommand() {
         Some((ROUTES, _)) => NO_RULE,
+        Some((LINE, _)) => NO_ACTION,
         _ => NOTHING_TO_DECODE,
     }
 }

@@ -16,9 +16,9 @@ pub use failure::Failure;
 pub use files::{files_of, input_once, lines_of, record_texts_of, text_of, texts_of};
 pub use line_words::words;
 pub use request::{
-    Approach, CaptureArguments, ChartArguments, CheckArguments, DatagramArguments, DrawArguments,
-    NodeArguments, PanelArguments, PlanArguments, Request, RoutesArguments, RunArguments,
-    SessionArguments, SimArguments, TableArguments, USUAL_HOLD,
+    Approach, BeginLineArguments, CaptureArguments, ChartArguments, CheckArguments,
+    DatagramArguments, DrawArguments, NodeArguments, PanelArguments, PlanArguments, Request,
+    RoutesArguments, RunArguments, SessionArguments, SimArguments, TableArguments, USUAL_HOLD,
 };
 
 // What crates above need of the crates below.

@@ -18,6 +18,7 @@ pub(crate) enum CommandHelp {
     Decode,
     Capture,
     Node,
+    Line,
 }
 
 impl CommandHelp {
@@ -37,6 +38,7 @@ impl CommandHelp {
             CommandHelp::Decode => DECODE,
             CommandHelp::Capture => CAPTURE,
             CommandHelp::Node => NODE,
+            CommandHelp::Line => LINE,
         }
     }
 
@@ -56,6 +58,7 @@ impl CommandHelp {
             CommandHelp::Decode => DECODE_DETAILS,
             CommandHelp::Capture => CAPTURE_DETAILS,
             CommandHelp::Node => NODE_DETAILS,
+            CommandHelp::Line => LINE_DETAILS,
         }
     }
 }
@@ -100,13 +103,13 @@ pub(crate) enum Help {
     RecordOfNode,
     Closings,
     KeepLocks,
-    Equipment,
-    State,
-    Lock,
-    Clear,
     Clock,
     Hold,
     ForOfNode,
+    Begin,
+    Railway,
+    NameOfLine,
+    Again,
 }
 
 impl Help {
@@ -149,13 +152,13 @@ impl Help {
             Help::RecordOfNode => RECORD_OF_NODE,
             Help::Closings => CLOSINGS,
             Help::KeepLocks => KEEP_LOCKS,
-            Help::Equipment => EQUIPMENT,
-            Help::State => STATE,
-            Help::Lock => LOCK,
-            Help::Clear => CLEAR,
             Help::Clock => CLOCK,
             Help::Hold => HOLD,
             Help::ForOfNode => FOR_OF_NODE,
+            Help::Begin => BEGIN,
+            Help::Railway => RAILWAY,
+            Help::NameOfLine => NAME_OF_LINE,
+            Help::Again => AGAIN,
         }
     }
 }
@@ -458,16 +461,6 @@ const CLOSINGS: &str = "The file in which what is closed outlives the interlocki
 const KEEP_LOCKS: &str =
     "What set routes lock is kept in the file too, and closed in the next process";
 
-const EQUIPMENT: &str =
-    "The loopback address at which a controller awaits its field equipment, in place of standard input and output";
-
-const STATE: &str = "The file of an end of a line, with its token and its lock";
-
-const LOCK: &str = "The loopback address at which the lock of that end awaits its equipment";
-
-const CLEAR: &str =
-    "The loopback address at which the detector awaits its equipment that tells whether the line is clear";
-
 const CLOCK: &str =
     "Where the node's clock begins, from 0 to 9000000000000 milliseconds, else at 0";
 
@@ -502,8 +495,7 @@ It is told by the field equipment, in lines on standard input:
   occupy S, clear S           what the contact of a section tells a detector
   reach left|right|none       where the point lies, with none for neither
 
-A controller waits until its first line is done and each contact has told its state. With --equipment it
-waits at that address until its equipment connects, and its lines go over the connection.
+A controller waits until its first line is done and each contact has told its state.
 
 The interlocking serves an operator, in lines on standard input and output, or at --operator:
 
@@ -535,15 +527,36 @@ With --closings what is closed is in FILE before `accepted` is told, and the nex
 before it hears anything. It answers `not kept X` where FILE can't be written. Where FILE can't be read
 whole, or is of another layout, every section and every point is closed, and `closings lost` tells why.
 
-Where FILE is a railway's, NAME is that of a station and of a node of it, as A.S1, or that of a line and of
-a station, as L.A: then it is that end of the line. An end takes --state, --lock and --clear. It hears, in
-lines on standard input, what the contacts of its part tell, `ask` and `unask`, and tells `token here|away`,
-`token asked|unasked`, `line clear|occupied` and `partner up|lost`. ADDRESSES has a line for each of the two
-stations of the line.
-
 With --stop-file it ends where that file is there, as it does after --for: what it drives is told to rest.
 With --record-size its record stands in parts, as for run.
 
 docs/DEPLOYMENT.md tells how a station is put on machines.
 
 Example: station node examples/halden.toml A --addresses examples/machines/halden.addresses";
+
+const BEGIN: &str = "The word begin";
+
+const RAILWAY: &str = "The railway, a TOML file (- for a file that is read is standard input)";
+
+const NAME_OF_LINE: &str = "The name of the line, as the railway has it";
+
+const AGAIN: &str = "Begins a line anew whose files are there, after a text was typed";
+
+const LINE: &str = "Writes the files with which a line between two stations begins";
+
+const LINE_DETAILS: &str = "Writes the files with which a line between two stations begins.
+
+Each end of a line keeps in a file whether the line's one token is at it, and where its lock lies; without
+that file it doesn't start. A new line begins with its token at the first end, and with both locks at the
+left. For a line L between A and B these files are L.A.end and L.B.end, beside the file of the railway.
+
+Nothing is written where something is wrong with the railway, as check tells it, or where one of the files
+is there already. The file of the second end, which has no token, is written first: so wherever the command
+is cut off, not both files have one.
+
+Where a file was lost or is an older copy, the line begins again, with --again. Before that no route onto or
+from the line may be set, their lamps have to be dark, and both ends stopped. A line that says so is asked
+for on standard input, and nothing is written unless exactly that is typed.
+docs/LINES.md tells more of lines.
+
+Example: station line begin examples/railway/railway.toml L";

@@ -15,10 +15,8 @@ mod station;
 mod stories;
 
 use crate::node_stories::kept_closings::{
-    counts_go_on_in_the_next_process, failing_disks_leave_what_was_accepted,
-    killed_processes_leave_what_they_accepted, killed_processes_leave_what_they_take_over,
-    locks_are_closed_in_the_next_process, lost_files_close_all_track,
-    nobody_is_heard_before_he_may_listen,
+    failing_disks_leave_what_was_accepted, killed_processes_leave_what_they_accepted,
+    killed_processes_leave_what_they_take_over, locks_are_closed_in_the_next_process,
 };
 use crate::node_stories::records::records_are_same;
 use crate::node_stories::station::{Station, free_addresses};
@@ -39,15 +37,11 @@ enum Trial {
     LateDatagrams,
     FailingCalls,
     Records,
-    /// The interlocking's process is killed, also as it takes over what its file has, its disk fails, its file is lost, its locks are
-    /// kept, somebody speaks early, and it counts on.
+    /// The interlocking's process is killed, also as it takes over what its file has, its disk fails, and its locks are kept.
     Kills,
     KillsWhileItTakesOver,
     FailingDisks,
-    LostFiles,
     Locks,
-    EarlyLines,
-    Counts,
     /// It rests for so many rounds.
     Rest(u64),
 }
@@ -81,10 +75,7 @@ fn comes_out(rt: &HostRuntime, trial: Trial) -> bool {
         Trial::Kills => killed_processes_leave_what_they_accepted(station),
         Trial::KillsWhileItTakesOver => killed_processes_leave_what_they_take_over(station),
         Trial::FailingDisks => failing_disks_leave_what_was_accepted(station),
-        Trial::LostFiles => lost_files_close_all_track(station),
         Trial::Locks => locks_are_closed_in_the_next_process(station),
-        Trial::EarlyLines => nobody_is_heard_before_he_may_listen(station),
-        Trial::Counts => counts_go_on_in_the_next_process(station),
         Trial::Rest(rounds) => rests(station, rounds),
     }
 }
@@ -130,23 +121,8 @@ fn what_was_accepted_outlives_each_call_that_fails(rt: HostRuntime) {
 }
 
 #[test]
-fn a_file_that_is_lost_closes_all_track(rt: HostRuntime) {
-    assert!(rt; comes_out(&rt, Trial::LostFiles));
-}
-
-#[test]
 fn what_a_route_locks_is_closed_in_the_next_process(rt: HostRuntime) {
     assert!(rt; comes_out(&rt, Trial::Locks));
-}
-
-#[test]
-fn what_is_said_before_the_operator_may_listen_is_answered(rt: HostRuntime) {
-    assert!(rt; comes_out(&rt, Trial::EarlyLines));
-}
-
-#[test]
-fn auxiliary_commands_are_counted_on_in_the_next_process(rt: HostRuntime) {
-    assert!(rt; comes_out(&rt, Trial::Counts));
 }
 
 #[test]

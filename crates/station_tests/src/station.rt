@@ -25,6 +25,7 @@ Commands:
   decode   Puts a datagram, or those of a session, into words
   capture  Writes the datagrams of a session as a capture
   node     Runs one node of a station as a process of its own
+  line     Writes the files with which a line between two stations begins
   help     Print this message or the help of the given subcommand(s)
 
 Options:
@@ -415,14 +416,10 @@ Arguments:
 Options:
       --addresses <ADDRESSES>  The addresses of the nodes, a TOML file
       --operator <ADDRESS>     The loopback address of the operator, in place of standard input and output
-      --equipment <ADDRESS>    The loopback address at which a controller awaits its field equipment, in place of standard input and output
       --record <R>             The file to which what came and what was done is written
       --record-size <N>        How many bytes a part of the record has, from 4096 to 4294967296, else it stands in one file
       --closings <FILE>        The file in which what is closed outlives the interlocking's process
       --keep-locks             What set routes lock is kept in the file too, and closed in the next process
-      --state <FILE>           The file of an end of a line, with its token and its lock
-      --lock <ADDRESS>         The loopback address at which the lock of that end awaits its equipment
-      --clear <ADDRESS>        The loopback address at which the detector awaits its equipment that tells whether the line is clear
       --clock <MS>             Where the node's clock begins, from 0 to 9000000000000 milliseconds, else at 0
       --hold <MS>              How long a datagram waits for those that were sent before it, from 0 to 80 milliseconds, else 60
       --for <MS>               How long the node runs, from 1000 to 600000 milliseconds, else without end
@@ -579,6 +576,27 @@ Options:
   -h, --help      Print help (see more with '--help')
 ";
 
+const SHORT_LINE_HELP: &str = "Writes the files with which a line between two stations begins
+
+Usage: station line [OPTIONS] <begin> <RAILWAY> <LINE>
+
+Arguments:
+  <begin>    The word begin
+  <RAILWAY>  The railway, a TOML file (- for a file that is read is standard input)
+  <LINE>     The name of the line, as the railway has it
+
+Options:
+      --again  Begins a line anew whose files are there, after a text was typed
+  -h, --help   Print help (see more with '--help')
+";
+
+const NOTHING_TO_BEGIN: &str = "error: line takes begin RAILWAY LINE, with or without --again
+
+Usage: station <COMMAND>
+
+For more information, try '--help'.
+";
+
 /// No command line here has more words.
 const MOST_WORDS: usize = 8;
 
@@ -603,6 +621,7 @@ const HELPED: &[Printed] = &[
     ("station decode -h", 0, SHORT_DECODE_HELP),
     ("station capture --help", 0, CAPTURE_HELP),
     ("station node -h", 0, SHORT_NODE_HELP),
+    ("station line -h", 0, SHORT_LINE_HELP),
     ("station --version", 0, "station 1.0.0\n"),
     ("station -V", 0, "station 1.0.0\n"),
 ];
@@ -633,6 +652,7 @@ const REFUSED: &[Printed] = &[
     ("station decode f", 2, NOTHING_TO_DECODE),
     ("station decode --hex - f r", 2, NOTHING_TO_DECODE),
     ("station decode --hex - --node S1", 2, NOTHING_TO_DECODE),
+    ("station line stop r L", 2, NOTHING_TO_BEGIN),
 ];
 
 /// The words of a command line, which spaces part.

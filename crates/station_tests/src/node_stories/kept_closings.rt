@@ -95,33 +95,18 @@ impl Place for Disk<'_> {
     }
 }
 
-/// A file of this text, on disk.
-fn file_of(station: Station<'_>, text: &str) -> Option<MemoryPlace> {
-    let mut place = MemoryPlace::new(station.alloc);
+/// A file of the small station, on disk, in which nothing was counted, and these lines stand then, each with its line feed.
+fn small_file(station: Station<'_>, lines: &str) -> Option<MemoryPlace> {
+    let alloc = station.alloc;
+    let digest = layout_digest(alloc, SMALL).ok()?;
+    let head = format!(in alloc; "layout {digest}\ncounted release 0\ncounted open 0\n").ok()?;
+    let text = format!(in alloc; "{head}{lines}").ok()?;
+    let mut place = MemoryPlace::new(alloc);
     place.write_new(text.as_bytes()).ok()?;
     place.sync_new().ok()?;
     place.replace().ok()?;
     place.sync_folder().ok()?;
     Some(place)
-}
-
-/// A file of the small station in which nothing was counted, and these lines stand then, each with its line feed.
-fn small_file(station: Station<'_>, lines: &str) -> Option<MemoryPlace> {
-    counted_file(station, 0, 0, lines)
-}
-
-/// A file of the small station in which so many releases and opens were counted, and these lines stand then, each with its line feed.
-fn counted_file(
-    station: Station<'_>,
-    releases: u64,
-    opens: u64,
-    lines: &str,
-) -> Option<MemoryPlace> {
-    let alloc = station.alloc;
-    let digest = layout_digest(alloc, SMALL).ok()?;
-    let counts = format!(in alloc; "counted release {releases}\ncounted open {opens}\n").ok()?;
-    let text = format!(in alloc; "layout {digest}\n{counts}{lines}").ok()?;
-    file_of(station, text.as_str())
 }
 
 /// How a process of the interlocking runs.
@@ -359,46 +344,6 @@ pub(crate) fn failing_disks_leave_what_was_accepted(station: Station<'_>) -> boo
     true
 }
 
-/// All track of the small station.
-const ALL_TRACK: [&str; 6] = ["GA", "GP", "G1", "G2", "P1 left", "P1 right"];
-
-/// Whether all track is closed by a process that finds this file, which it tells so.
-fn closes_all(station: Station<'_>, place: Option<MemoryPlace>, wanted: &str) -> bool {
-    let Some(mut place) = place else {
-        return false;
-    };
-    let mut record = Vec::new(station.alloc);
-    let Some(lines) = told(station, WHOLE, &mut place, &[], &mut record) else {
-        return false;
-    };
-    for thing in ALL_TRACK {
-        if !is_told_closed(station, &lines, thing) {
-            return false;
-        }
-    }
-    is_told_before(&lines, wanted, "holding")
-}
-
-/// Where a file says less than what is closed all track is closed.
-pub(crate) fn lost_files_close_all_track(station: Station<'_>) -> bool {
-    let missing = Some(MemoryPlace::new(station.alloc));
-    let other = file_of(station, "layout 00\nclosed G1\nend\n");
-    let damaged = file_of(station, "G1");
-    closes_all(station, missing, "closings lost: there is none")
-        && closes_all(
-            station,
-            small_file(station, "closed G1\n"),
-            "closings lost: it is cut off",
-        )
-        && closes_all(station, other, "closings lost: it is of another layout")
-        && closes_all(
-            station,
-            small_file(station, "closed G9\nend\n"),
-            "closings lost: it names what the layout doesn't have",
-        )
-        && closes_all(station, damaged, "closings lost: it is no file of closings")
-}
-
 /// What a file has that was closed before, and the things that it names.
 const BEFORE: &str = "closed G1\nclosed P1 left\nclosed R3\nend\n";
 
@@ -412,25 +357,6 @@ fn are_told_closed(station: Station<'_>, lines: &[String], things: &[&str]) -> b
     things
         .iter()
         .all(|thing| is_told_closed(station, lines, *thing))
-}
-
-/// Whoever speaks as soon as the process runs is answered, though it closes first what its file has: nobody is heard before he may
-/// listen.
-pub(crate) fn nobody_is_heard_before_he_may_listen(station: Station<'_>) -> bool {
-    let Some(mut place) = small_file(station, BEFORE) else {
-        return false;
-    };
-    let mut record = Vec::new(station.alloc);
-    let asked = ["close G2"];
-    let Some(lines) = told(station, WHOLE, &mut place, &asked, &mut record) else {
-        return false;
-    };
-    let Some(answers) = answers(station, &lines) else {
-        return false;
-    };
-    answers.len() == 1
-        && are_told_closed(station, &lines, &CLOSED_BEFORE)
-        && is_told_before(&lines, "holding", "accepted")
 }
 
 /// A process is killed between any two calls that it makes as it takes over what its file has.
@@ -462,36 +388,6 @@ pub(crate) fn killed_processes_leave_what_they_take_over(station: Station<'_>) -
         }
     }
     true
-}
-
-/// Whether a text stands in a file.
-fn is_in_file(place: &MemoryPlace, wanted: &str) -> bool {
-    let Ok(Some(bytes)) = place.read() else {
-        return false;
-    };
-    match str::from_utf8(&bytes) {
-        Ok(text) => text.contains(wanted),
-        Err(_) => false,
-    }
-}
-
-/// A process counts on from what its file has, also behind one that counted nothing.
-pub(crate) fn counts_go_on_in_the_next_process(station: Station<'_>) -> bool {
-    let Some(mut place) = counted_file(station, 3, 1, BEFORE) else {
-        return false;
-    };
-    let mut record = Vec::new(station.alloc);
-    let silent = told(station, WHOLE, &mut place, &[], &mut record).is_some();
-    if !silent || !is_in_file(&place, "counted open 1\n") {
-        return false;
-    }
-    let asked = ["open G1"];
-    let Some(lines) = told(station, WHOLE, &mut place, &asked, &mut record) else {
-        return false;
-    };
-    is_told_before(&lines, "holding", "accepted")
-        && is_in_file(&place, "counted release 3\ncounted open 2\n")
-        && !is_in_file(&place, "closed G1\n")
 }
 
 /// For how many milliseconds the process runs in which a route is set, and then isn't cancelled yet.

@@ -1,7 +1,7 @@
 use Rattle.std.proofs.Common.{◌≡◌, ◌∙◌, ◌∷◌, [], List, ℕ, sym, ap, subst}
 use Rattle.panel_desk.specs.Boards.{none}
 use Rattle.panel_desk.specs.node_lines.Commands.{command_text}
-use Rattle.node_network.specs.node_drive.Calls.{BreaksOff, Writes}
+use Rattle.node_drive.specs.Calls.{BreaksOff, Writes}
 use Rattle.node_panel.specs.Heard.{HeardView}
 use Rattle.node_panel.specs.Turns.{AsksEach, asks, breaks_off, none as none_asked}
 use Rattle.node_panel.proofs.CallsOn.{calls_same}

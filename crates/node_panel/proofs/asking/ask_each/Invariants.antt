@@ -1,7 +1,7 @@
 use Rattle.std.proofs.Common.{List, take}
 use Rattle.std.specs.List.{flat_map}
 use Rattle.panel_desk.specs.Boards.{Notes}
-use Rattle.node_network.specs.node_drive.Calls.{Call, Calls}
+use Rattle.node_drive.specs.Calls.{Call, Calls}
 use Rattle.node_panel.specs.Turns.{AsksEach, asked_by}
 use Rattle.node_panel.proofs.asking.ask_each.Given as goal
 

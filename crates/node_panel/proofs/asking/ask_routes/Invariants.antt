@@ -1,6 +1,6 @@
 use Rattle.std.proofs.Common.{List, map, take}
 use Rattle.panel_desk.specs.Boards.{Notes}
-use Rattle.node_network.specs.node_drive.Calls.{Call, Calls}
+use Rattle.node_drive.specs.Calls.{Call, Calls}
 use Rattle.node_panel.specs.Turns.{AsksEach, requested}
 use Rattle.node_panel.proofs.asking.ask_routes.Given as goal
 

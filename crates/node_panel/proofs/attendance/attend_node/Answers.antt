@@ -1,5 +1,5 @@
 use Rattle.std.proofs.Common.{◌∷◌, ◌++◌, [], ap, refl, subst, ◌∙◌, arith}
-use Rattle.node_network.specs.node_drive.Calls.{Reads, Rests}
+use Rattle.node_drive.specs.Calls.{Reads, Rests}
 use Rattle.panel_desk.specs.node_lines.layout.Entries.{Site}
 use Rattle.node_panel.specs.Turns.{IsLived, Moment, begins, goes_on}
 use Rattle.node_panel.proofs.CallsOn.{calls_none, calls_on, latest_rises, reading_is}

@@ -1,5 +1,5 @@
 use Rattle.std.proofs.Common.{◌≡◌, List}
-use Rattle.node_network.specs.node_drive.Calls.{Call, Calls}
+use Rattle.node_drive.specs.Calls.{Call, Calls}
 use Rattle.node_panel.specs.Turns.{Turns}
 use Rattle.node_panel.proofs.attendance.attend_node.Given as goal
 

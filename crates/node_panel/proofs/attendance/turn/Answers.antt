@@ -5,7 +5,7 @@ use Rattle.panel_desk.specs.Lines.{numbered}
 use Rattle.panel_desk.specs.StandingOrders.{StandingView, standing_lines}
 use Rattle.panel_desk.specs.declared.panel_command.PanelCommand.{PanelCommand}
 use Rattle.panel_desk.specs.node_lines.layout.Entries.{Site}
-use Rattle.node_network.specs.node_drive.Calls.{AsksLine, AsksListener}
+use Rattle.node_drive.specs.Calls.{AsksLine, AsksListener}
 use Rattle.node_panel.specs.Heard.{HeardView, heard_all, pictured}
 use Rattle.node_panel.specs.Noted.{noted_all}
 use Rattle.node_panel.specs.Turns.{Asks, AsksNumbers, begun, opened, timed}

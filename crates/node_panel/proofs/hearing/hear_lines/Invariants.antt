@@ -1,5 +1,5 @@
 use Rattle.std.proofs.Common.{◌≡◌, List, map}
-use Rattle.node_network.specs.node_drive.Calls.{AsksLine, Calls, LineHeard}
+use Rattle.node_drive.specs.Calls.{AsksLine, Calls, LineHeard}
 use Rattle.node_panel.specs.Heard.{heard_all}
 use Rattle.node_panel.specs.Noted.{noted_all}
 use Rattle.node_panel.proofs.hearing.hear_lines.Given as goal

@@ -1,5 +1,5 @@
 use Rattle.std.proofs.Common.{◌∷◌, [], refl, ap}
-use Rattle.node_network.specs.node_drive.Calls.{AsksLine, Closed, Nothing, line_heard}
+use Rattle.node_drive.specs.Calls.{AsksLine, Closed, Nothing, line_heard}
 use Rattle.node_panel.proofs.CallsOn.{calls_same}
 use Rattle.node_panel.proofs.hearing.hear_next.Goals as goal
 

@@ -1,0 +1,4 @@
+pub mod Untouched
+mod Apart
+mod FileNames
+mod Events

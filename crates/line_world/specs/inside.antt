@@ -1,0 +1,3 @@
+-- What only the contracts of private functions name.
+pub mod AtWork
+pub mod Laws
