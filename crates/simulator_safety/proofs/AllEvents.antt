@@ -12,7 +12,7 @@ use Rattle.simulator_link_laws.specs.simulator_event.declared.event.Event.TheVar
 use Rattle.simulator_link_laws.specs.simulator_event.layout.declared.ids.NodeId.{NodeId}
 use Rattle.simulator_machine.specs.Chains.{MovesTo}
 use Rattle.simulator_machine.specs.Machine.{Machine, made_anew}
-use Rattle.simulator_move_laws.specs.Rows.{machine_table}
+use Rattle.simulator_link_laws.specs.simulator_move_laws.Rows.{machine_table}
 use Rattle.simulator_link_laws.specs.simulator_spec.Run.{CanHappen, after_all}
 use Rattle.simulator_link_laws.specs.simulator_spec.Happens.{happens}
 use Rattle.simulator_link_laws.specs.simulator_spec.Nodes.{Interlocking, node_at}

@@ -36,8 +36,8 @@ use Rattle.simulator_machine.specs.Table.{Table as MachineTable}
 use Rattle.simulator_link_laws.specs.simulator_move_laws.Lawful.{IsLawful}
 use Rattle.simulator_link_laws.specs.simulator_move_laws.LinkMoves.{LinkGoes, moves_by}
 use Rattle.simulator_link_laws.specs.simulator_move_laws.EndsSeen.{represented as link_represented}
-use Rattle.simulator_move_laws.specs.Ends.{AreFit, Steps}
-use Rattle.simulator_move_laws.specs.Point.{IsMovedDriven, IsPointSeen, PointGoes}
+use Rattle.simulator_link_laws.specs.simulator_move_laws.Ends.{AreFit, Steps}
+use Rattle.simulator_link_laws.specs.simulator_move_laws.Point.{IsMovedDriven, IsPointSeen, PointGoes}
 use Rattle.simulator_link_laws.specs.Events.{anew_events, host_events, point_events}
 use Rattle.simulator_link_laws.specs.Nodes.{IsEndOfServer}
 use Rattle.simulator_link_laws.specs.Whole.{IsWhole}

@@ -21,10 +21,10 @@ use Rattle.simulator_machine.specs.Signal.{Signal as MachineSignal, SignalMove}
 use Rattle.simulator_machine.specs.Table.{IsSound, Table as MachineTable}
 use Rattle.simulator_link_laws.specs.simulator_move_laws.Items.{aspects_in, moves_in}
 use Rattle.simulator_link_laws.specs.simulator_move_laws.EndsSeen.{client_of}
-use Rattle.simulator_move_laws.specs.Point.{IsPointSeen, PointGoes}
-use Rattle.simulator_move_laws.specs.Signal.{IsSignalSeen, SignalGoes}
-use Rattle.simulator_move_laws.specs.Onward.{LooksAlike, PointLooksAlike, SignalLooksAlike}
-use Rattle.simulator_move_laws.specs.Rows.{machine_table}
+use Rattle.simulator_link_laws.specs.simulator_move_laws.Point.{IsPointSeen, PointGoes}
+use Rattle.simulator_link_laws.specs.simulator_move_laws.Signal.{IsSignalSeen, SignalGoes}
+use Rattle.simulator_link_laws.specs.simulator_move_laws.Onward.{LooksAlike, PointLooksAlike, SignalLooksAlike}
+use Rattle.simulator_link_laws.specs.simulator_move_laws.Rows.{machine_table}
 use Rattle.simulator_link_laws.specs.simulator_spec.Nodes.{point_link}
 use Rattle.simulator_link_laws.specs.simulator_spec.State.{ClockedControllerState, WorldState}
 use Rattle.simulator_link_laws.specs.simulator_event.Safe.{IsThere}

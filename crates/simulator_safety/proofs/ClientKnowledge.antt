@@ -37,14 +37,14 @@ use Rattle.simulator_machine.specs.Signal.{Signal}
 use Rattle.simulator_link_laws.specs.simulator_move_laws.Items.{all_said, aspects_in, aspects_of, reports_in, said_by}
 use Rattle.simulator_link_laws.specs.simulator_move_laws.Flows.{ClientKnows, FlowsInOrder, commands_taken, given_after, of_server, reports_given, taken_after}
 use Rattle.simulator_link_laws.specs.simulator_move_laws.EndsSeen.{represented, server_of}
-use Rattle.simulator_move_laws.specs.Point.{AreSaid, IsPointSeen}
-use Rattle.simulator_move_laws.specs.Signal.{IsSignalSeen}
-use Rattle.simulator_move_laws.specs.Calls.{Items, items_after}
-use Rattle.simulator_move_laws.specs.Facts.{LinkFacts}
-use Rattle.simulator_move_laws.specs.Link.{is_inside}
-use Rattle.simulator_move_laws.specs.Nodes.{KnownSignalFits, openings}
-use Rattle.simulator_move_laws.specs.Telegrams as rules
-use Rattle.simulator_move_laws.specs.Telegrams.{given_by, item_of, positions_told}
+use Rattle.simulator_link_laws.specs.simulator_move_laws.Point.{AreSaid, IsPointSeen}
+use Rattle.simulator_link_laws.specs.simulator_move_laws.Signal.{IsSignalSeen}
+use Rattle.simulator_link_laws.specs.simulator_move_laws.Calls.{Items, items_after}
+use Rattle.simulator_link_laws.specs.simulator_move_laws.Facts.{LinkFacts}
+use Rattle.simulator_link_laws.specs.simulator_move_laws.Link.{is_inside}
+use Rattle.simulator_link_laws.specs.simulator_move_laws.Nodes.{KnownSignalFits, openings}
+use Rattle.simulator_link_laws.specs.simulator_move_laws.Telegrams as rules
+use Rattle.simulator_link_laws.specs.simulator_move_laws.Telegrams.{given_by, item_of, positions_told}
 use Rattle.simulator_safety.specs.At.{IsClientAt}
 use Rattle.simulator_safety.specs.Calls.{as_calls}
 use Rattle.simulator_safety.proofs.FarEndCalls.{given_same, links_same, taken_same}

@@ -22,7 +22,7 @@ use Rattle.simulator_link_laws.specs.object_host_laws.World.{MayHear, as_call, c
 use Rattle.simulator_link_laws.specs.simulator_move_laws.Lawful.{AreLawful, IsLawful}
 use Rattle.simulator_link_laws.specs.simulator_move_laws.LinkMoves.{LinkGoes, moves_by}
 use Rattle.simulator_link_laws.specs.simulator_move_laws.EndsSeen.{represented}
-use Rattle.simulator_move_laws.specs.Ends.{AreFit, Steps}
+use Rattle.simulator_link_laws.specs.simulator_move_laws.Ends.{AreFit, Steps}
 use Rattle.simulator_link_laws.specs.simulator_spec.Links.{names_at}
 use Rattle.simulator_link_laws.specs.simulator_spec.Nodes.{links}
 use Rattle.simulator_link_laws.specs.simulator_spec.Controllers.{controller_after, controller_anew}

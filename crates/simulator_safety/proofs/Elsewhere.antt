@@ -18,11 +18,11 @@ use Rattle.simulator_machine.specs.Signal.{Signal as MachineSignal, aspects_give
 use Rattle.simulator_link_laws.specs.simulator_move_laws.Items.{aspects_in, moves_in, reports_in}
 use Rattle.simulator_link_laws.specs.simulator_move_laws.Flows.{of_server, reports_given}
 use Rattle.simulator_link_laws.specs.simulator_move_laws.EndsSeen.{client_of, is_inside, is_same_connection, represented, server_in, state_of}
-use Rattle.simulator_move_laws.specs.Point.{IsPointSeen}
-use Rattle.simulator_move_laws.specs.Signal.{IsSignalSeen}
-use Rattle.simulator_move_laws.specs.Onward.{LooksAlike}
-use Rattle.simulator_move_laws.specs.Calls.{Items}
-use Rattle.simulator_move_laws.specs.Sees.{Given, Sees, SeesPoint, SeesSignal}
+use Rattle.simulator_link_laws.specs.simulator_move_laws.Point.{IsPointSeen}
+use Rattle.simulator_link_laws.specs.simulator_move_laws.Signal.{IsSignalSeen}
+use Rattle.simulator_link_laws.specs.simulator_move_laws.Onward.{LooksAlike}
+use Rattle.simulator_link_laws.specs.simulator_move_laws.Calls.{Items}
+use Rattle.simulator_link_laws.specs.simulator_move_laws.Sees.{Given, Sees, SeesPoint, SeesSignal}
 use Rattle.simulator_link_laws.specs.simulator_spec.Nodes.{point_link}
 use Rattle.simulator_link_laws.specs.simulator_spec.State.{ClockedInterlockingState}
 use Rattle.simulator_safety.specs.Represents.{IsInterlockingSeen, given_in, items_of}

@@ -27,10 +27,10 @@ use Rattle.simulator_link_laws.specs.ixl_client.ClientSoFar.{LinkCall, Opens, Ti
 use Rattle.simulator_link_laws.specs.ixl_client.Step.{telegram_to}
 use Rattle.simulator_link_laws.specs.ixl_spec.Step.{Input, Datagram}
 use Rattle.simulator_link_laws.specs.simulator_move_laws.Flows.{begins, given_after, given_by, has_begun, taken_after, taken_by}
-use Rattle.simulator_move_laws.specs.Calls as rules
-use Rattle.simulator_move_laws.specs.Calls.{Items, items_after, items_by}
-use Rattle.simulator_move_laws.specs.Facts.{AreCallsIn}
-use Rattle.simulator_move_laws.specs.Telegrams.{item_of}
+use Rattle.simulator_link_laws.specs.simulator_move_laws.Calls as rules
+use Rattle.simulator_link_laws.specs.simulator_move_laws.Calls.{Items, items_after, items_by}
+use Rattle.simulator_link_laws.specs.simulator_move_laws.Facts.{AreCallsIn}
+use Rattle.simulator_link_laws.specs.simulator_move_laws.Telegrams.{item_of}
 use Rattle.simulator_safety.specs.At.{HasNames}
 use Rattle.simulator_safety.specs.Calls.{as_calls}
 

@@ -32,16 +32,16 @@ use Rattle.simulator_machine.specs.Machine.{Machine}
 use Rattle.simulator_machine.specs.Point as machine
 use Rattle.simulator_machine.specs.Run.{first}
 use Rattle.simulator_link_laws.specs.simulator_move_laws.Items.{position_seen}
-use Rattle.simulator_move_laws.specs.Ends.{AreFit}
-use Rattle.simulator_move_laws.specs.Point.{IsPointSeen}
-use Rattle.simulator_move_laws.specs.Signal.{IsSignalSeen}
+use Rattle.simulator_link_laws.specs.simulator_move_laws.Ends.{AreFit}
+use Rattle.simulator_link_laws.specs.simulator_move_laws.Point.{IsPointSeen}
+use Rattle.simulator_link_laws.specs.simulator_move_laws.Signal.{IsSignalSeen}
 use Rattle.simulator_machine.specs.Route.{Free}
 use Rattle.simulator_link_laws.specs.ixl_spec.View.{is_holding}
 use Rattle.simulator_link_laws.specs.simulator_move_laws.Lawful.{AreLawful, IsLawful}
-use Rattle.simulator_move_laws.specs.Made.{IsJustMade, IsMadeClient, IsQuietMachine}
-use Rattle.simulator_move_laws.specs.Nodes.{IsOfPoint, phase_seen}
-use Rattle.simulator_move_laws.specs.Rows.{machine_table}
-use Rattle.simulator_move_laws.specs.Sees.{Given, Sees}
+use Rattle.simulator_link_laws.specs.simulator_move_laws.Made.{IsJustMade, IsMadeClient, IsQuietMachine}
+use Rattle.simulator_link_laws.specs.simulator_move_laws.Nodes.{IsOfPoint, phase_seen}
+use Rattle.simulator_link_laws.specs.simulator_move_laws.Rows.{machine_table}
+use Rattle.simulator_link_laws.specs.simulator_move_laws.Sees.{Given, Sees}
 use Rattle.simulator_link_laws.specs.simulator_spec.First.{Beginning, IsOutsetOf, Outset, at_zero, first_controller, host_of, new_ixl, new_known_signal_of, new_point, new_route_of, new_signal, new_known_point_of, point_standing, world_at}
 use Rattle.simulator_link_laws.specs.simulator_spec.Links.{names_at, starts_at_zero}
 use Rattle.simulator_link_laws.specs.simulator_spec.Nodes.{links, names_of, point_link}

@@ -15,8 +15,8 @@ use Rattle.simulator_machine.specs.Invariant.{Invariant}
 use Rattle.simulator_machine.specs.Machine.{Machine, is_held}
 use Rattle.simulator_machine.specs.Route as machine
 use Rattle.simulator_machine.specs.Table.{IsSound}
-use Rattle.simulator_move_laws.specs.Nodes.{phase_seen, route_seen}
-use Rattle.simulator_move_laws.specs.Rows.{machine_table, row_at}
+use Rattle.simulator_link_laws.specs.simulator_move_laws.Nodes.{phase_seen, route_seen}
+use Rattle.simulator_link_laws.specs.simulator_move_laws.Rows.{machine_table, row_at}
 use Rattle.simulator_link_laws.specs.simulator_spec.State.{ClockedInterlockingState}
 use Rattle.simulator_link_laws.specs.simulator_spec.Interlocking.{authorities, held_of, pair_then}
 use Rattle.simulator_link_laws.specs.simulator_event.declared.snapshot.Held.{Held}

@@ -31,7 +31,7 @@ use Rattle.simulator_machine.specs.Signal as machine_signal
 use Rattle.simulator_machine.specs.Signal.{IsLive, Stop, shown, shown_by as shown_in}
 use Rattle.simulator_link_laws.specs.simulator_move_laws.Items.{all_said, aspect_seen, aspects_in, aspects_of, moves_in, moves_of, said_by}
 use Rattle.simulator_link_laws.specs.simulator_move_laws.Items as items
-use Rattle.simulator_move_laws.specs.Telegrams.{side_seen}
+use Rattle.simulator_link_laws.specs.simulator_move_laws.Telegrams.{side_seen}
 use Rattle.simulator_link_laws.specs.simulator_spec.Nodes.{point_link}
 use Rattle.simulator_link_laws.specs.simulator_spec.Seen.{shown_by}
 use Rattle.simulator_link_laws.specs.simulator_spec.State.{ClockedControllerState, WorldState}

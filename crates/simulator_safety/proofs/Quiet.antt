@@ -10,7 +10,7 @@ use Rattle.simulator_link_laws.specs.rasta_core.phase.Phase.TheVariants as phase
 use Rattle.simulator_link_laws.specs.rasta_core.phase.State.{State}
 use Rattle.simulator_link_laws.specs.rasta_core.phase.State.TheVariants as state
 use Rattle.simulator_link_laws.specs.simulator_move_laws.EndsSeen.{client_in, client_of}
-use Rattle.simulator_move_laws.specs.Link.{client_at}
+use Rattle.simulator_link_laws.specs.simulator_move_laws.Link.{client_at}
 
 -- the state by whether the link is open, its phase and its deadline
 abbrev of_parts : Bool → Phase → ℕ → ℕ → State

@@ -10,8 +10,8 @@ use Rattle.simulator_link_laws.specs.ixl_client.Client.{PeerState}
 use Rattle.simulator_link_laws.specs.ixl_client.Step.{message_of, telegram_to}
 use Rattle.simulator_link_laws.specs.ixl_client.declared.command.Command.{Command}
 use Rattle.simulator_link_laws.specs.ixl_client.declared.command.Command.TheVariants as commands
-use Rattle.simulator_move_laws.specs.Telegrams.{item_of}
-use Rattle.simulator_move_laws.specs.Totals.{IsReadable}
+use Rattle.simulator_link_laws.specs.simulator_move_laws.Telegrams.{item_of}
+use Rattle.simulator_link_laws.specs.simulator_move_laws.Totals.{IsReadable}
 use Rattle.simulator_safety.specs.At.{HasNames}
 
 module _ (read : (telegram : Telegram) → IsTelegram telegram → reading (writing telegram) ≡ Ok telegram) (peer : PeerState) (named : HasNames peer) where

@@ -24,11 +24,11 @@ use Rattle.simulator_machine.specs.Point.{Point as MachinePoint}
 use Rattle.simulator_machine.specs.Signal.{Signal as MachineSignal, shown}
 use Rattle.simulator_link_laws.specs.simulator_move_laws.Items.{aspect_seen, position_seen}
 use Rattle.simulator_link_laws.specs.simulator_move_laws.Lawful.{AreLawful, IsLawful}
-use Rattle.simulator_move_laws.specs.Ends.{AreFit}
-use Rattle.simulator_move_laws.specs.Point.{IsPointSeen}
-use Rattle.simulator_move_laws.specs.Signal.{IsSignalSeen}
-use Rattle.simulator_move_laws.specs.Nodes.{route_seen}
-use Rattle.simulator_move_laws.specs.Rows.{machine_table}
+use Rattle.simulator_link_laws.specs.simulator_move_laws.Ends.{AreFit}
+use Rattle.simulator_link_laws.specs.simulator_move_laws.Point.{IsPointSeen}
+use Rattle.simulator_link_laws.specs.simulator_move_laws.Signal.{IsSignalSeen}
+use Rattle.simulator_link_laws.specs.simulator_move_laws.Nodes.{route_seen}
+use Rattle.simulator_link_laws.specs.simulator_move_laws.Rows.{machine_table}
 use Rattle.simulator_link_laws.specs.Nodes.{IsEndOfServer}
 use Rattle.simulator_link_laws.specs.Whole.{IsWhole}
 use Rattle.simulator_link_laws.specs.simulator_spec.Links.{AreLinksOf, names_at}

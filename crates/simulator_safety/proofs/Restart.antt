@@ -35,12 +35,12 @@ use Rattle.simulator_machine.specs.Table.{Table as MachineTable}
 use Rattle.simulator_link_laws.specs.simulator_move_laws.Items.{aspects_in, moves_in, reports_in}
 use Rattle.simulator_link_laws.specs.simulator_move_laws.Flows.{of_server, reports_given}
 use Rattle.simulator_link_laws.specs.simulator_move_laws.EndsSeen.{represented, server_of}
-use Rattle.simulator_move_laws.specs.Point.{IsPointSeen}
-use Rattle.simulator_move_laws.specs.Signal.{IsSignalSeen}
-use Rattle.simulator_move_laws.specs.Onward.{IsMadeAnew}
-use Rattle.simulator_move_laws.specs.Made.{IsJustMade}
-use Rattle.simulator_move_laws.specs.Rows.{machine_table}
-use Rattle.simulator_move_laws.specs.Sees.{Given, Sees}
+use Rattle.simulator_link_laws.specs.simulator_move_laws.Point.{IsPointSeen}
+use Rattle.simulator_link_laws.specs.simulator_move_laws.Signal.{IsSignalSeen}
+use Rattle.simulator_link_laws.specs.simulator_move_laws.Onward.{IsMadeAnew}
+use Rattle.simulator_link_laws.specs.simulator_move_laws.Made.{IsJustMade}
+use Rattle.simulator_link_laws.specs.simulator_move_laws.Rows.{machine_table}
+use Rattle.simulator_link_laws.specs.simulator_move_laws.Sees.{Given, Sees}
 use Rattle.simulator_link_laws.specs.Events.{numbers_below, restart_events}
 use Rattle.simulator_link_laws.specs.simulator_spec.First.{Beginning, new_ixl, new_known_signal_of, new_route_of, new_known_point_of}
 use Rattle.simulator_link_laws.specs.simulator_spec.Nodes.{Interlocking, links, point_link}

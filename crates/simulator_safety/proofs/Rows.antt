@@ -17,10 +17,10 @@ use Rattle.simulator_link_laws.specs.control_table.Table.{AreSections, Conflict,
 use Rattle.simulator_link_laws.specs.ixl_spec.Table.{Need, Row, Table, is_same_side}
 use Rattle.ixl_table.specs.Table.{IsRowOf, IsTableOf, as_point, as_route, as_section}
 use Rattle.simulator_machine.specs.Lists.{is_same}
-use Rattle.simulator_move_laws.specs.Rows.{is_elsewhere, is_side_seen, machine_table, row_at, row_or_none, rows_conflict, some_pair}
+use Rattle.simulator_link_laws.specs.simulator_move_laws.Rows.{is_elsewhere, is_side_seen, machine_table, row_at, row_or_none, rows_conflict, some_pair}
 use Rattle.simulator_machine.specs.Signal.{Stop, Proceed}
 use Rattle.simulator_machine.specs.Signal as machine
-use Rattle.simulator_move_laws.specs.Telegrams.{aspect_seen, side_seen}
+use Rattle.simulator_link_laws.specs.simulator_move_laws.Telegrams.{aspect_seen, side_seen}
 use Rattle.simulator_safety.proofs.WorldLists.{any_true, contains_map, get_below, get_inside, left_of, right_of, some_injective}
 
 pub true_both : (a b : Bool) → a ≡ true → b ≡ true → a && b ≡ true

@@ -26,8 +26,8 @@ use Rattle.simulator_machine.specs.Machine.{Machine}
 use Rattle.simulator_machine.specs.Promise as promised
 use Rattle.simulator_machine.specs.Point as seen_point
 use Rattle.simulator_machine.specs.Signal.{shown}
-use Rattle.simulator_move_laws.specs.Rows.{machine_table}
-use Rattle.simulator_move_laws.specs.Telegrams.{side_seen}
+use Rattle.simulator_link_laws.specs.simulator_move_laws.Rows.{machine_table}
+use Rattle.simulator_link_laws.specs.simulator_move_laws.Telegrams.{side_seen}
 use Rattle.simulator_link_laws.specs.simulator_spec.Refusals.{driven_by}
 use Rattle.simulator_link_laws.specs.simulator_spec.Seen.{IsSnapshotOf, as_shown, as_stands, shown_by}
 use Rattle.simulator_link_laws.specs.simulator_spec.State.{ClockedControllerState, WorldState}

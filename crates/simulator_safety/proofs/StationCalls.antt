@@ -9,7 +9,7 @@ use Rattle.simulator_link_laws.specs.ixl_client.ClientSoFar.{LinkCall, as_call}
 use Rattle.simulator_link_laws.specs.ixl_spec.StepSoFar.{Node, Signal, Point, Detector}
 use Rattle.simulator_machine.specs.Lists.{is_same}
 use Rattle.simulator_safety.specs.Calls.{as_calls}
-use Rattle.simulator_move_laws.specs.Calls.{calls_at, is_node}
+use Rattle.simulator_link_laws.specs.simulator_move_laws.Calls.{calls_at, is_node}
 use Rattle.simulator_link_laws.specs.Calls.{AreOfNodes, IsNodeOf, link_at, node_call}
 use Rattle.simulator_link_laws.specs.simulator_spec.Nodes.{point_link}
 

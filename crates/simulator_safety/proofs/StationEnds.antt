@@ -21,15 +21,15 @@ use Rattle.simulator_machine.specs.Table.{Table as MachineTable}
 use Rattle.simulator_link_laws.specs.simulator_move_laws.Items.{all_said, aspects_in, moves_in, reports_in}
 use Rattle.simulator_link_laws.specs.simulator_move_laws.Flows.{ClientIsAfter, given_after, has_begun, of_server, reports_given, taken_after}
 use Rattle.simulator_link_laws.specs.simulator_move_laws.EndsSeen.{client_of, represented, server_of}
-use Rattle.simulator_move_laws.specs.Point.{IsPointSeen}
-use Rattle.simulator_move_laws.specs.Signal.{IsSignalSeen}
+use Rattle.simulator_link_laws.specs.simulator_move_laws.Point.{IsPointSeen}
+use Rattle.simulator_link_laws.specs.simulator_move_laws.Signal.{IsSignalSeen}
 use Rattle.simulator_safety.specs.Calls.{as_calls}
-use Rattle.simulator_move_laws.specs.Behind.{KnownSignalBehind, KnownPointBehind}
-use Rattle.simulator_move_laws.specs.Calls as rules
-use Rattle.simulator_move_laws.specs.Calls.{Items, items_after}
-use Rattle.simulator_move_laws.specs.Link.{client_at}
-use Rattle.simulator_move_laws.specs.Sees.{Given}
-use Rattle.simulator_move_laws.specs.Totals.{IsReadable}
+use Rattle.simulator_link_laws.specs.simulator_move_laws.Behind.{KnownSignalBehind, KnownPointBehind}
+use Rattle.simulator_link_laws.specs.simulator_move_laws.Calls as rules
+use Rattle.simulator_link_laws.specs.simulator_move_laws.Calls.{Items, items_after}
+use Rattle.simulator_link_laws.specs.simulator_move_laws.Link.{client_at}
+use Rattle.simulator_link_laws.specs.simulator_move_laws.Sees.{Given}
+use Rattle.simulator_link_laws.specs.simulator_move_laws.Totals.{IsReadable}
 use Rattle.simulator_safety.specs.Represents.{items_of}
 
 -- the laws of the two ends of a link

@@ -30,18 +30,18 @@ use Rattle.simulator_machine.specs.Invariant.{Invariant}
 use Rattle.simulator_machine.specs.Machine.{Machine}
 use Rattle.simulator_link_laws.specs.simulator_move_laws.Flows.{ClientIsAfter}
 use Rattle.simulator_link_laws.specs.simulator_move_laws.Lawful.{AreLawful, IsLawful}
-use Rattle.simulator_move_laws.specs.Point.{IsPointSeen}
-use Rattle.simulator_move_laws.specs.Signal.{IsSignalSeen}
+use Rattle.simulator_link_laws.specs.simulator_move_laws.Point.{IsPointSeen}
+use Rattle.simulator_link_laws.specs.simulator_move_laws.Signal.{IsSignalSeen}
 use Rattle.simulator_safety.specs.At as far
 use Rattle.simulator_safety.specs.At.{AreFarEnds, HasNames}
 use Rattle.simulator_safety.specs.Calls.{as_calls}
-use Rattle.simulator_move_laws.specs.Onward.{IsStepped}
-use Rattle.simulator_move_laws.specs.Behind.{KnownSignalBehind, KnownSignalIsBehind, KnownPointBehind, KnownPointIsBehind, known_signal_items, known_point_items}
-use Rattle.simulator_move_laws.specs.Calls.{Items, calls_at, items_after}
-use Rattle.simulator_move_laws.specs.Facts.{FarEnds}
-use Rattle.simulator_move_laws.specs.Rows.{AreHeldAtFirst, machine_table}
-use Rattle.simulator_move_laws.specs.Sees.{Given, Sees, SeesPoint, SeesSignal}
-use Rattle.simulator_move_laws.specs.Totals.{IsReadable}
+use Rattle.simulator_link_laws.specs.simulator_move_laws.Onward.{IsStepped}
+use Rattle.simulator_link_laws.specs.simulator_move_laws.Behind.{KnownSignalBehind, KnownSignalIsBehind, KnownPointBehind, KnownPointIsBehind, known_signal_items, known_point_items}
+use Rattle.simulator_link_laws.specs.simulator_move_laws.Calls.{Items, calls_at, items_after}
+use Rattle.simulator_link_laws.specs.simulator_move_laws.Facts.{FarEnds}
+use Rattle.simulator_link_laws.specs.simulator_move_laws.Rows.{AreHeldAtFirst, machine_table}
+use Rattle.simulator_link_laws.specs.simulator_move_laws.Sees.{Given, Sees, SeesPoint, SeesSignal}
+use Rattle.simulator_link_laws.specs.simulator_move_laws.Totals.{IsReadable}
 use Rattle.simulator_link_laws.specs.Calls.{AreOfNodes, node_call}
 use Rattle.simulator_link_laws.specs.Events.{FollowsBy, interlocking_events}
 use Rattle.simulator_link_laws.specs.Nodes.{IsEndOfClient, MayComeWith}

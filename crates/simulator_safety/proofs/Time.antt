@@ -28,13 +28,13 @@ use Rattle.simulator_machine.specs.Signal.{Signal as MachineSignal, SignalMove}
 use Rattle.simulator_machine.specs.Table.{Table as MachineTable}
 use Rattle.simulator_link_laws.specs.simulator_move_laws.Lawful.{AreLawful, IsLawful}
 use Rattle.simulator_link_laws.specs.simulator_move_laws.EndsSeen.{represented, server_of}
-use Rattle.simulator_move_laws.specs.Ends.{AreFit, server_later}
-use Rattle.simulator_move_laws.specs.Point.{IsPointSeen, PointGoes}
-use Rattle.simulator_move_laws.specs.Signal.{IsSignalSeen, SignalGoes}
-use Rattle.simulator_move_laws.specs.Onward.{AreAloneAfterQuiet, IsPassed, LooksAlike, PointLooksAlike, SignalLooksAlike}
-use Rattle.simulator_move_laws.specs.Link.{client_at}
-use Rattle.simulator_move_laws.specs.Rows.{machine_table}
-use Rattle.simulator_move_laws.specs.Sees.{Given, Sees, SeesPoint, SeesSignal}
+use Rattle.simulator_link_laws.specs.simulator_move_laws.Ends.{AreFit, server_later}
+use Rattle.simulator_link_laws.specs.simulator_move_laws.Point.{IsPointSeen, PointGoes}
+use Rattle.simulator_link_laws.specs.simulator_move_laws.Signal.{IsSignalSeen, SignalGoes}
+use Rattle.simulator_link_laws.specs.simulator_move_laws.Onward.{AreAloneAfterQuiet, IsPassed, LooksAlike, PointLooksAlike, SignalLooksAlike}
+use Rattle.simulator_link_laws.specs.simulator_move_laws.Link.{client_at}
+use Rattle.simulator_link_laws.specs.simulator_move_laws.Rows.{machine_table}
+use Rattle.simulator_link_laws.specs.simulator_move_laws.Sees.{Given, Sees, SeesPoint, SeesSignal}
 use Rattle.simulator_link_laws.specs.Events.{time_events}
 use Rattle.simulator_link_laws.specs.Nodes.{IsEndOfClient}
 use Rattle.simulator_link_laws.specs.Whole.{IsWhole}

@@ -13,11 +13,11 @@ use Rattle.simulator_machine.specs.Signal.{Signal as MachineSignal, aspects_give
 use Rattle.simulator_link_laws.specs.simulator_move_laws.Items.{aspects_in, moves_in, reports_in}
 use Rattle.simulator_link_laws.specs.simulator_move_laws.Flows.{of_server, reports_given}
 use Rattle.simulator_link_laws.specs.simulator_move_laws.EndsSeen.{is_inside, is_same_connection, represented, server_in, server_of, state_of}
-use Rattle.simulator_move_laws.specs.Ends.{server_later}
-use Rattle.simulator_move_laws.specs.Point.{IsPointSeen}
-use Rattle.simulator_move_laws.specs.Signal.{IsSignalSeen}
-use Rattle.simulator_move_laws.specs.Link.{client_at}
-use Rattle.simulator_move_laws.specs.Step.{PointStays, SignalStays}
+use Rattle.simulator_link_laws.specs.simulator_move_laws.Ends.{server_later}
+use Rattle.simulator_link_laws.specs.simulator_move_laws.Point.{IsPointSeen}
+use Rattle.simulator_link_laws.specs.simulator_move_laws.Signal.{IsSignalSeen}
+use Rattle.simulator_link_laws.specs.simulator_move_laws.Link.{client_at}
+use Rattle.simulator_link_laws.specs.simulator_move_laws.Step.{PointStays, SignalStays}
 use Rattle.simulator_safety.proofs.StationEnds.{EndLaws, client_represented, link_represented, server_represented}
 
 module _ (elapsed of_client of_server_clock : ℕ) (ends : Ends) where

@@ -20,8 +20,8 @@ use Rattle.simulator_link_laws.specs.ixl_client.Client.{PeerState}
 use Rattle.simulator_link_laws.specs.ixl_client.Meaning.{place_of, state_in}
 use Rattle.simulator_link_laws.specs.ixl_client.Made.{told_by, told_by_all, told_of}
 use Rattle.simulator_link_laws.specs.simulator_move_laws.Items.{all_said, reports_in, reports_of, said_by}
-use Rattle.simulator_move_laws.specs.Point.{AreSaid, IsOfPoint, IsOwn, item_by}
-use Rattle.simulator_move_laws.specs.Telegrams.{position_told, positions_told}
+use Rattle.simulator_link_laws.specs.simulator_move_laws.Point.{AreSaid, IsOfPoint, IsOwn, item_by}
+use Rattle.simulator_link_laws.specs.simulator_move_laws.Telegrams.{position_told, positions_told}
 
 map_joined : {A B : Type 0} (f : A → B) (first others : List A) → map f (first ++ others) ≡ map f first ++ map f others
 map_joined f [] others = refl

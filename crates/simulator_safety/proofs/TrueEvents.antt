@@ -8,7 +8,7 @@ use Rattle.simulator_link_laws.specs.simulator_event.declared.event.Event.{Event
 use Rattle.simulator_link_laws.specs.simulator_event.declared.event.Event.TheVariants as event
 use Rattle.simulator_machine.specs.Chains.{MovesTo}
 use Rattle.simulator_machine.specs.Machine.{Machine}
-use Rattle.simulator_move_laws.specs.Rows.{machine_table}
+use Rattle.simulator_link_laws.specs.simulator_move_laws.Rows.{machine_table}
 use Rattle.simulator_link_laws.specs.simulator_spec.Happens.{happens}
 use Rattle.simulator_link_laws.specs.simulator_spec.Links.{names_at}
 use Rattle.simulator_link_laws.specs.simulator_spec.Nodes.{links}

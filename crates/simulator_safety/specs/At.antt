@@ -19,10 +19,10 @@ use Rattle.simulator_machine.specs.Machine.{Machine}
 use Rattle.simulator_machine.specs.Point.{Point}
 use Rattle.simulator_machine.specs.Signal.{Signal}
 use Rattle.simulator_link_laws.specs.simulator_move_laws.Lawful.{IsLawful}
-use Rattle.simulator_move_laws.specs.Point.{IsPointSeen}
-use Rattle.simulator_move_laws.specs.Signal.{IsSignalSeen}
-use Rattle.simulator_move_laws.specs.Calls.{Items}
-use Rattle.simulator_move_laws.specs.Sees.{Given}
+use Rattle.simulator_link_laws.specs.simulator_move_laws.Point.{IsPointSeen}
+use Rattle.simulator_link_laws.specs.simulator_move_laws.Signal.{IsSignalSeen}
+use Rattle.simulator_link_laws.specs.simulator_move_laws.Calls.{Items}
+use Rattle.simulator_link_laws.specs.simulator_move_laws.Sees.{Given}
 
 -- the names of a client and of its controller are such that its telegrams can be read
 pub record HasNames (peer : PeerState) : Type 0 where

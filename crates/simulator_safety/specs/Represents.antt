@@ -17,11 +17,11 @@ use Rattle.simulator_machine.specs.Chains.{MovesTo}
 use Rattle.simulator_machine.specs.Invariant.{Invariant}
 use Rattle.simulator_machine.specs.Machine.{Machine}
 use Rattle.simulator_link_laws.specs.simulator_move_laws.Lawful.{AreLawful}
-use Rattle.simulator_move_laws.specs.Point.{IsPointSeen}
-use Rattle.simulator_move_laws.specs.Signal.{IsSignalSeen}
-use Rattle.simulator_move_laws.specs.Calls.{Items}
-use Rattle.simulator_move_laws.specs.Rows.{machine_table}
-use Rattle.simulator_move_laws.specs.Sees.{Given, Sees}
+use Rattle.simulator_link_laws.specs.simulator_move_laws.Point.{IsPointSeen}
+use Rattle.simulator_link_laws.specs.simulator_move_laws.Signal.{IsSignalSeen}
+use Rattle.simulator_link_laws.specs.simulator_move_laws.Calls.{Items}
+use Rattle.simulator_link_laws.specs.simulator_move_laws.Rows.{machine_table}
+use Rattle.simulator_link_laws.specs.simulator_move_laws.Sees.{Given, Sees}
 use Rattle.simulator_link_laws.specs.Whole.{IsWhole}
 use Rattle.simulator_link_laws.specs.simulator_spec.Links.{AreLinksOf, names_at}
 use Rattle.simulator_link_laws.specs.simulator_spec.Nodes.{links, point_link}

@@ -14,7 +14,7 @@ use Rattle.simulator_machine.specs.Machine.{Machine, is_held}
 use Rattle.simulator_machine.specs.Point.{Position as MachinePosition}
 use Rattle.simulator_machine.specs.Signal.{shown}
 use Rattle.simulator_machine.specs.Table.{Table as MachineTable}
-use Rattle.simulator_move_laws.specs.Rows.{machine_table}
+use Rattle.simulator_link_laws.specs.simulator_move_laws.Rows.{machine_table}
 use Rattle.simulator_link_laws.specs.simulator_spec.First.{Outset}
 use Rattle.simulator_link_laws.specs.simulator_spec.Refusals.{driven_by}
 use Rattle.simulator_link_laws.specs.simulator_spec.Seen.{shown_by}

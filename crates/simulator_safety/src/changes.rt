@@ -7,19 +7,19 @@ ghost use Rattle.simulator_link_laws.specs.point_ctl.Drive.{PointState};
 ghost use Rattle.simulator_link_laws.specs.signal_ctl.Signal.{SignalState};
 ghost use Rattle.simulator_link_laws.specs.ixl_spec.Table.{Table};
 ghost use Rattle.simulator_machine.specs.Machine.{Machine};
-ghost use Rattle.simulator_move_laws.specs.Point.{IsPointSeen, PointGoes};
-ghost use Rattle.simulator_move_laws.specs.Signal.{IsSignalSeen, SignalGoes};
+ghost use Rattle.simulator_link_laws.specs.simulator_move_laws.Point.{IsPointSeen, PointGoes};
+ghost use Rattle.simulator_link_laws.specs.simulator_move_laws.Signal.{IsSignalSeen, SignalGoes};
 ghost use Rattle.simulator_safety.specs.Represents.{Represents, RepresentsAfter};
 ghost use Rattle.simulator_link_laws.specs.simulator_spec.Nodes.{point_link};
 ghost use Rattle.simulator_link_laws.specs.simulator_spec.State.{ClockedControllerState, WorldState};
 ghost use Rattle.simulator_safety.specs.Change.{NoneChanges, PointChanges, SignalChanges};
 
-use simulator_machine::{
-    equal_numbers_are_same, invariant_is_kept, lists_of_moves_compose, moves_of_one_are_moves,
-};
-use simulator_move_laws::{
+use simulator_link_laws::simulator_move_laws::{
     controllers_change_nothing_seen, points_stay_elsewhere, signals_stay_elsewhere,
     tables_are_sound,
+};
+use simulator_machine::{
+    equal_numbers_are_same, invariant_is_kept, lists_of_moves_compose, moves_of_one_are_moves,
 };
 
 /// A world in which one signal or one point is another, by moves of the machine's, is one that the machine sees after them;

@@ -25,13 +25,13 @@ use crate::{
 };
 use rasta_core::a_node_restarts;
 use simulator_link_laws::ends_are_those_of_the_nodes;
-use simulator_machine::{invariant_is_kept, lists_of_moves_compose, moves_of_each_are_moves};
-use simulator_move_laws::{
+use simulator_link_laws::simulator_move_laws::{
     controllers_change_nothing_seen, lawful_ends_are_fit, lawful_worlds_stay_lawful,
     passing_time_is_moves, points_pass_time_and_restart, points_stay_elsewhere,
     representations_tell_the_connection, restarts_are_moves, restarts_of_links_are_moves,
     signals_pass_time_and_restart, signals_stay_elsewhere, tables_are_sound,
 };
+use simulator_machine::{invariant_is_kept, lists_of_moves_compose, moves_of_each_are_moves};
 
 /// Time that passes is a list of moves of the machine: controllers leave their connections, then clients do, quiet times end,
 /// and so does the hold. The machine sees the world after it.

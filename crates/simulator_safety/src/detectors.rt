@@ -19,7 +19,7 @@ ghost use Rattle.simulator_link_laws.specs.simulator_spec.State.{WorldState};
 use crate::changes::changes_are_represented;
 use crate::networks_follow_their_worlds;
 use rasta_core::a_node_restarts;
-use simulator_move_laws::a_node_of_one_link_makes_a_step;
+use simulator_link_laws::simulator_move_laws::a_node_of_one_link_makes_a_step;
 
 /// The machine sees nothing of what happens at the controller of a detector, and so it sees the world then: its tick, what
 /// is delivered to it, a section that is occupied or cleared, and its being made anew.

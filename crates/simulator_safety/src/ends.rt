@@ -8,9 +8,9 @@ ghost use Rattle.simulator_link_laws.specs.ixl_client.Client.{PeerState};
 ghost use Rattle.simulator_link_laws.specs.ixl_client.ClientSoFar.{LinkCall};
 ghost use Rattle.simulator_link_laws.specs.simulator_move_laws.Flows.{given_after, has_begun, taken_after};
 ghost use Rattle.simulator_link_laws.specs.simulator_move_laws.EndsSeen.{client_of};
-ghost use Rattle.simulator_move_laws.specs.Calls.{Items, has_begun as has_begun_in, items_after};
-ghost use Rattle.simulator_move_laws.specs.Link.{client_at};
-ghost use Rattle.simulator_move_laws.specs.Totals.{IsReadable};
+ghost use Rattle.simulator_link_laws.specs.simulator_move_laws.Calls.{Items, has_begun as has_begun_in, items_after};
+ghost use Rattle.simulator_link_laws.specs.simulator_move_laws.Link.{client_at};
+ghost use Rattle.simulator_link_laws.specs.simulator_move_laws.Totals.{IsReadable};
 ghost use Rattle.simulator_safety.specs.At.{HasNames};
 ghost use Rattle.simulator_safety.specs.Calls.{as_calls};
 

@@ -17,15 +17,15 @@ ghost use Rattle.simulator_machine.specs.Point.{Point, reports_made};
 ghost use Rattle.simulator_link_laws.specs.simulator_move_laws.Flows.{reports_given};
 ghost use Rattle.simulator_link_laws.specs.simulator_move_laws.Lawful.{IsLawful};
 ghost use Rattle.simulator_link_laws.specs.simulator_move_laws.EndsSeen.{server_of};
-ghost use Rattle.simulator_move_laws.specs.Link.{client_at};
-ghost use Rattle.simulator_move_laws.specs.Point.{IsPointSeen};
-ghost use Rattle.simulator_move_laws.specs.Facts.{FarEnds};
-ghost use Rattle.simulator_move_laws.specs.Sees.{Given, Sees};
-ghost use Rattle.simulator_move_laws.specs.Telegrams.{positions_told};
+ghost use Rattle.simulator_link_laws.specs.simulator_move_laws.Link.{client_at};
+ghost use Rattle.simulator_link_laws.specs.simulator_move_laws.Point.{IsPointSeen};
+ghost use Rattle.simulator_link_laws.specs.simulator_move_laws.Facts.{FarEnds};
+ghost use Rattle.simulator_link_laws.specs.simulator_move_laws.Sees.{Given, Sees};
+ghost use Rattle.simulator_link_laws.specs.simulator_move_laws.Telegrams.{positions_told};
 ghost use Rattle.simulator_safety.specs.At.{AreFarEnds};
 
 use sci_telegram::written_is_read;
-use simulator_move_laws::{
+use simulator_link_laws::simulator_move_laws::{
     clients_know_throughout, flows_are_in_order, items_join, representations_tell_the_connection,
 };
 

@@ -5,11 +5,15 @@ ghost use Rattle.simulator_link_laws.specs.layout.Once.{Once};
 ghost use Rattle.simulator_link_laws.specs.layout.Station.{IsStation};
 ghost use Rattle.simulator_link_laws.specs.ixl_spec.Table.{Table};
 ghost use Rattle.simulator_machine.specs.Run.{first};
-ghost use Rattle.simulator_move_laws.specs.Made.{IsJustMade};
+ghost use Rattle.simulator_link_laws.specs.simulator_move_laws.Made.{IsJustMade};
 ghost use Rattle.simulator_link_laws.specs.simulator_spec.First.{Beginning, IsOutsetOf, Outset, new_ixl, world_at};
 ghost use Rattle.simulator_safety.specs.Seen.{positions_at};
 ghost use Rattle.simulator_safety.specs.Represents.{Represents};
 
+use simulator_link_laws::simulator_move_laws::{
+    lawful_ends_are_fit, lawful_worlds_stay_lawful, made_interlockings_are_seen, points_begin_seen,
+    signals_begin_seen,
+};
 use simulator_link_laws::simulator_spec::{
     a_restarted_interlocking_holds, a_station_begins_its_links,
 };
@@ -17,10 +21,6 @@ use simulator_link_laws::{
     layouts_name_their_links, links_are_named_by_their_controllers, stations_have_links,
 };
 use simulator_machine::invariant_is_kept;
-use simulator_move_laws::{
-    lawful_ends_are_fit, lawful_worlds_stay_lawful, made_interlockings_are_seen, points_begin_seen,
-    signals_begin_seen,
-};
 
 /// An interlocking that is made for a layout has no connection since then, and nothing is set.
 pub fn new_interlockings_are_just_made()

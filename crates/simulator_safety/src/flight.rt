@@ -31,12 +31,12 @@ ghost use Rattle.simulator_safety.specs.Represents.{Represents};
 use crate::represented_worlds_are_seen;
 use control_table::required_points_are_there;
 use rasta_core::{items_are_counted, outside_until_it_enters};
-use simulator_link_laws::{
-    deliveries_may_come, ends_are_those_of_the_nodes, layouts_name_their_links,
-};
-use simulator_move_laws::{
+use simulator_link_laws::simulator_move_laws::{
     flows_are_in_order, items_join, lawful_links_stay_lawful, lawful_worlds_stay_lawful,
     representations_tell_the_connection, servers_enter_once,
+};
+use simulator_link_laws::{
+    deliveries_may_come, ends_are_those_of_the_nodes, layouts_name_their_links,
 };
 
 /// An aspect other than stop that a signal shows, or that is in flight to it and could still be taken, is that of a route

@@ -16,10 +16,12 @@ ghost use Rattle.simulator_link_laws.specs.simulator_spec.TrueClocks.{MayCome};
 ghost use Rattle.simulator_link_laws.specs.TrueLinks.{AreTrueLinks};
 ghost use Rattle.simulator_safety.specs.Represents.{IsNetworkOf};
 
+use simulator_link_laws::simulator_move_laws::{
+    lawful_worlds_pass_time, lawful_worlds_stay_lawful,
+};
 use simulator_link_laws::{
     events_are_those_of_the_links, layouts_name_their_links, true_clocks_keep_links,
 };
-use simulator_move_laws::{lawful_worlds_pass_time, lawful_worlds_stay_lawful};
 
 /// The network of a world after an event is what the event is to its links makes of it.
 pub fn networks_follow_their_worlds()

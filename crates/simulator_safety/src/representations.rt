@@ -18,11 +18,11 @@ ghost use Rattle.simulator_safety.specs.Seen.{IsSeen};
 
 use crate::worlds::{held_pairs_are_held_routes, seen_stations_are_safe};
 use simulator_link_laws::ends_are_those_of_the_nodes;
-use simulator_machine::promise_follows;
-use simulator_move_laws::{
+use simulator_link_laws::simulator_move_laws::{
     driven_points_are_seen_driven, lawful_ends_are_fit, lawful_worlds_stay_lawful,
     signal_shows_what_is_seen, tables_are_sound,
 };
+use simulator_machine::promise_follows;
 
 /// A world that the machine sees is seen as far as its promise speaks of it. The pairs that are held in it are what a
 /// restart of the interlocking freezes.

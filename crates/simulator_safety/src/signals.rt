@@ -18,15 +18,15 @@ use crate::changes::changes_are_represented;
 use crate::networks_follow_their_worlds;
 use object_host::{step_is_calls, steps_keep_a_host};
 use rasta_core::a_node_restarts;
+use simulator_link_laws::simulator_move_laws::{
+    a_node_of_one_link_makes_a_step, lawful_ends_are_fit, lawful_worlds_stay_lawful,
+    restarts_of_links_are_moves, signals_pass_time_and_restart, steps_of_signals_are_moves,
+};
 use simulator_link_laws::{
     Signal, deliveries_may_come, ends_are_those_of_the_nodes, hosts_say_items,
     layouts_name_their_links, links_are_named_by_their_controllers,
 };
 use simulator_machine::lists_of_moves_compose;
-use simulator_move_laws::{
-    a_node_of_one_link_makes_a_step, lawful_ends_are_fit, lawful_worlds_stay_lawful,
-    restarts_of_links_are_moves, signals_pass_time_and_restart, steps_of_signals_are_moves,
-};
 
 /// What happens at the controller of a signal is a list of moves of the machine, which sees the world then: its tick, what
 /// is delivered to it, and its being made anew.

@@ -21,15 +21,15 @@ use crate::{
     networks_follow_their_worlds, peers_with_names_are_read,
 };
 use rasta_core::a_node_makes_a_step;
+use simulator_link_laws::simulator_move_laws::{
+    a_client_of_many_makes_a_step, lawful_worlds_stay_lawful, points_stay_elsewhere,
+    representations_tell_the_connection, signals_stay_elsewhere, steps_are_seen, tables_are_sound,
+};
 use simulator_link_laws::{
     deliveries_may_come, ends_are_those_of_the_nodes, events_are_those_of_the_links,
     interlockings_call_their_nodes, layouts_name_their_links,
 };
 use simulator_machine::invariant_is_kept;
-use simulator_move_laws::{
-    a_client_of_many_makes_a_step, lawful_worlds_stay_lawful, points_stay_elsewhere,
-    representations_tell_the_connection, signals_stay_elsewhere, steps_are_seen, tables_are_sound,
-};
 
 /// A step of the interlocking, with a command, on a tick and with a datagram, is a list of moves of the machine, which sees
 /// the world after it.

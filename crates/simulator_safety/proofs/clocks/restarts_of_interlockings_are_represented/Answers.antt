@@ -2,7 +2,7 @@ use Rattle.std.proofs.Common.{◌≡◌, Option, sym, subst}
 use Rattle.simulator_link_laws.specs.rasta_core.Links.{run_links}
 use Rattle.simulator_link_laws.specs.simulator_event.declared.event.Event.TheVariants.{Restart}
 use Rattle.simulator_machine.specs.Machine as machine
-use Rattle.simulator_move_laws.specs.Rows.{machine_table}
+use Rattle.simulator_link_laws.specs.simulator_move_laws.Rows.{machine_table}
 use Rattle.simulator_link_laws.specs.Events.{events_of, restart_events}
 use Rattle.simulator_link_laws.specs.simulator_spec.Happens.{happens, made_anew}
 use Rattle.simulator_link_laws.specs.simulator_spec.Nodes.{Node}

@@ -1,5 +1,5 @@
 use Rattle.simulator_link_laws.specs.simulator_event.declared.event.Event.TheVariants.{Time}
-use Rattle.simulator_move_laws.specs.Rows.{machine_table}
+use Rattle.simulator_link_laws.specs.simulator_move_laws.Rows.{machine_table}
 use Rattle.simulator_link_laws.specs.Events.{events_of}
 use Rattle.simulator_link_laws.specs.simulator_spec.Happens.{happens}
 use Rattle.simulator_link_laws.specs.simulator_spec.Refusals.{refusal}

@@ -1,4 +1,4 @@
-use Rattle.simulator_move_laws.specs.Rows.{machine_table}
+use Rattle.simulator_link_laws.specs.simulator_move_laws.Rows.{machine_table}
 use Rattle.simulator_link_laws.specs.Events.{events_of}
 use Rattle.simulator_link_laws.specs.simulator_spec.Happens.{happens}
 use Rattle.simulator_safety.proofs.Time.{TimeLaws, clock_within_but, time_represented}

@@ -6,9 +6,9 @@ use Rattle.simulator_link_laws.specs.ixl_client.Client.{PeerState}
 use Rattle.simulator_link_laws.specs.ixl_client.Made.{link_after}
 use Rattle.simulator_link_laws.specs.ixl_client.ClientSoFar.{LinkCall}
 use Rattle.simulator_link_laws.specs.simulator_move_laws.Flows.{ClientKnows}
-use Rattle.simulator_move_laws.specs.Calls.{Items, items_after}
-use Rattle.simulator_move_laws.specs.Facts.{AreCallsIn}
-use Rattle.simulator_move_laws.specs.Sees.{SeesSignal, SignalFits}
+use Rattle.simulator_link_laws.specs.simulator_move_laws.Calls.{Items, items_after}
+use Rattle.simulator_link_laws.specs.simulator_move_laws.Facts.{AreCallsIn}
+use Rattle.simulator_link_laws.specs.simulator_move_laws.Sees.{SeesSignal, SignalFits}
 use Rattle.simulator_safety.specs.At.{IsClientAt}
 use Rattle.simulator_safety.specs.Calls.{as_calls}
 use Rattle.simulator_safety.proofs.FarEndCalls.{begins_none, may_each}

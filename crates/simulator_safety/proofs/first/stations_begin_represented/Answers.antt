@@ -1,6 +1,6 @@
 use Rattle.simulator_link_laws.specs.rasta_core.Links.{begun}
 use Rattle.simulator_link_laws.specs.simulator_move_laws.Lawful.{AreLawful}
-use Rattle.simulator_move_laws.specs.Rows.{machine_table}
+use Rattle.simulator_link_laws.specs.simulator_move_laws.Rows.{machine_table}
 use Rattle.simulator_link_laws.specs.Whole.{IsWhole}
 use Rattle.simulator_link_laws.specs.simulator_spec.First.{world_at}
 use Rattle.simulator_link_laws.specs.simulator_spec.Links.{names_at, starts_at_zero}

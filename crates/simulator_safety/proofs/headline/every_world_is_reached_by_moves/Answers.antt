@@ -9,7 +9,7 @@ use Rattle.simulator_machine.specs.Machine.{Machine}
 use Rattle.simulator_machine.specs.Run.{first}
 use Rattle.simulator_safety.specs.Seen.{positions_at}
 use Rattle.simulator_safety.specs.Represents.{Represents, RepresentsAfter}
-use Rattle.simulator_move_laws.specs.Rows.{machine_table}
+use Rattle.simulator_link_laws.specs.simulator_move_laws.Rows.{machine_table}
 use Rattle.simulator_link_laws.specs.simulator_spec.Run.{CanHappen, after_all}
 use Rattle.simulator_link_laws.specs.simulator_spec.First.{world_at}
 use Rattle.simulator_link_laws.specs.simulator_spec.State.{WorldState}

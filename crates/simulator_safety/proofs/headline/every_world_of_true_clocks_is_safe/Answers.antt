@@ -6,7 +6,7 @@ use Rattle.simulator_link_laws.specs.ixl_spec.Table.{Table}
 use Rattle.ixl_table.specs.Table.{IsTableOf}
 use Rattle.simulator_link_laws.specs.simulator_event.declared.event.Event.{Event}
 use Rattle.simulator_machine.specs.Run.{first}
-use Rattle.simulator_move_laws.specs.Rows.{machine_table}
+use Rattle.simulator_link_laws.specs.simulator_move_laws.Rows.{machine_table}
 use Rattle.simulator_link_laws.specs.rasta_core.Links.{begun}
 use Rattle.simulator_link_laws.specs.simulator_spec.First.{IsOutsetOf, Outset, world_at}
 use Rattle.simulator_link_laws.specs.simulator_spec.Links.{names_at, starts_at_zero}

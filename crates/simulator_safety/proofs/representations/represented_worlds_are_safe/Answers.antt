@@ -1,4 +1,4 @@
-use Rattle.simulator_move_laws.specs.Rows.{machine_table}
+use Rattle.simulator_link_laws.specs.simulator_move_laws.Rows.{machine_table}
 use Rattle.simulator_safety.proofs.representations.represented_worlds_are_safe.Goals as goal
 
 pub returns : goal.returns

@@ -1,5 +1,5 @@
 use Rattle.simulator_link_laws.specs.rasta_core.identity.Role.TheVariants as role
-use Rattle.simulator_move_laws.specs.Rows.{machine_table}
+use Rattle.simulator_link_laws.specs.simulator_move_laws.Rows.{machine_table}
 use Rattle.simulator_safety.proofs.InterlockingSteps.{EventLaws, delivery_represented, request_represented, tick_represented}
 use Rattle.simulator_safety.proofs.steps.steps_of_interlockings_are_represented.Goals as goal
 
