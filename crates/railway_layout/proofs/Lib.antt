@@ -8,3 +8,7 @@ pub mod Seen
 pub mod AllTold
 pub mod TracksAmong
 pub mod Locked
+pub mod Apart
+pub mod Told
+pub mod Tracks
+pub mod Layouts

@@ -36,7 +36,10 @@ fn judged(alloc: Global, layout: Layout) -> Result<Found, AllocError>
     ensures { IfOk result (IsOf (Ok layout)) }
 {
     match check(alloc, layout) {
-        Ok(table) => Ok(Found::Table(table)),
+        Ok(table) => {
+            table.layout();
+            Ok(Found::Table(table))
+        }
         Err(TableFault::OutOfMemory) => Err(AllocError),
         Err(fault) => Ok(Found::Unsound(fault)),
     }
