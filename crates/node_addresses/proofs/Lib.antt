@@ -3,3 +3,4 @@ pub mod Refuted
 pub mod Explained
 pub mod NetworksExplained
 pub mod Among
+pub mod NodeNames

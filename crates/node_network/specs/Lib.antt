@@ -9,3 +9,5 @@ pub mod Shares
 pub mod Intakes
 pub mod Sockets
 pub mod News
+-- what crates above need of the crates below
+pub use Rattle.node_drive.specs as node_drive

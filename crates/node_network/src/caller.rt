@@ -4,7 +4,6 @@ ghost use Rattle.std.specs.Prelude.{◌≡◌};
 
 use crate::calling_lines::CallingLines;
 use crate::node_clock::NodeClock;
-use crate::other_end::{next_line, write_line_to};
 use node_drive::{BrokenOff, Fault, NextDatagram, NextLine, NodeId, Outside, ThrownAway, ToKeep};
 use std::alloc::{AllocError, Global};
 use std::net::{Net, SocketAddr};
@@ -29,16 +28,10 @@ impl<'a, R: Net + Timer> Caller<'a, R> {
     ) -> Caller<'a, R>
         ensures { result.clock.latest ≡ clock.entry.latest }
     {
-        let lines = CallingLines {
-            net,
-            address,
-            node: None,
-            left: 0,
-        };
         Caller {
             alloc,
             clock,
-            lines,
+            lines: CallingLines::new(net, address),
         }
     }
 }
@@ -61,7 +54,7 @@ impl<'a, R: Net + Timer> Outside for Caller<'a, R> {
     }
 
     fn next_line(&mut self, alloc: Global) -> Result<NextLine, AllocError> {
-        next_line(&mut self.lines.node, alloc)
+        self.lines.next_line(alloc)
     }
 
     fn next_datagram(&mut self) -> NextDatagram {
@@ -76,7 +69,7 @@ impl<'a, R: Net + Timer> Outside for Caller<'a, R> {
     }
 
     fn write_line(&mut self, text: &str) -> Result<(), BrokenOff> {
-        write_line_to(&mut self.lines.node, self.alloc, text)
+        self.lines.write_line(self.alloc, text)
     }
 
     fn send(&mut self, _to: NodeId, _bytes: &[u8]) {}

@@ -8,7 +8,3 @@ pub mod Seen
 pub mod AllTold
 pub mod TracksAmong
 pub mod Locked
-pub mod Apart
-pub mod Told
-pub mod Tracks
-pub mod Layouts

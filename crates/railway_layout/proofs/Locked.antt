@@ -40,10 +40,10 @@ use Rattle.railway_layout.specs.Way.{way}
 use Rattle.railway_layout.specs.Written.{EndText, LineText, RailwayText, StationText}
 use Rattle.railway_layout.proofs.Seen.{ends_empty, front_empty, line_empty, no_cons, rest_empty}
 
-pub some_is : {A : Type 0} (x y : A) → Some x ≡ Some y → x ≡ y
+some_is : {A : Type 0} (x y : A) → Some x ≡ Some y → x ≡ y
 some_is x y e = cc
 
-pub not_none : {A : Type 0} (x : A) → None ≡ Some x → ⊥
+not_none : {A : Type 0} (x : A) → None ≡ Some x → ⊥
 not_none x e = cc
 
 -- ---- what a route writes
@@ -107,7 +107,7 @@ leads_from p r at = leaves_there (tip p) r (tips_same p) at
 
 -- ---- nothing is told
 
-pub nothing_told : (wrong : Bool) (one : RailwayFault) → told wrong one ≡ [] → wrong ≡ false
+nothing_told : (wrong : Bool) (one : RailwayFault) → told wrong one ≡ [] → wrong ≡ false
 nothing_told true one e = absurd (no_cons one [] e)
 nothing_told false one e = refl
 
@@ -196,12 +196,12 @@ ends_in name (Some x) (Some y) line e =
     let is : made_of ≡ line = some_is made_of line e in
     (ap (λ (l : LineState). Some l.first) is, ap (λ (l : LineState). Some l.second) is)
 
-pub ends_of : (ss : List RailwayStation) (w : LineText) (line : LineState) → line_of ss w ≡ Some line → (end_of ss w.first ≡ Some line.first) × (end_of ss w.second ≡ Some line.second)
+ends_of : (ss : List RailwayStation) (w : LineText) (line : LineState) → line_of ss w ≡ Some line → (end_of ss w.first ≡ Some line.first) × (end_of ss w.second ≡ Some line.second)
 unfolding line_of
 ends_of ss w line e = ends_in w.name (end_of ss w.first) (end_of ss w.second) line e
 
 -- the text of a line that was made
-pub made_at : {A B : Type 0} (f : A → Option B) (xs : List A) (ys : List B) → map f xs ≡ map Some ys → (k : ℕ) (y : B) → k < length ys → get_or ys k y ≡ y
+made_at : {A B : Type 0} (f : A → Option B) (xs : List A) (ys : List B) → map f xs ≡ map Some ys → (k : ℕ) (y : B) → k < length ys → get_or ys k y ≡ y
     → (x : A) × (k < length xs) × (x ≡ get_or xs k x) × (f x ≡ Some y)
 made_at f [] [] e k y lt at = absurd (omega arith)
 made_at f [] (y' ∷ ys) e k y lt at = absurd (cc)

@@ -11,6 +11,5 @@ pub mod Rules
 pub mod Faults
 pub mod Railway
 pub mod Locked
-pub mod Apart
 -- what crates above need of the crates below
 pub use Rattle.control_table.specs as control_table

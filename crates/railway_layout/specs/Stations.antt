@@ -6,8 +6,6 @@ use Rattle.std.specs.Str.{bytes_eq}
 use Rattle.control_table.specs.layout.Entries.{Site}
 use Rattle.layout_text.specs.FirstFault.{Read}
 use Rattle.control_table.specs.layout.NamesResolved.{layout_in}
-use Rattle.control_table.specs.layout.Once.{Once}
-use Rattle.control_table.specs.layout.Station.{IsStation}
 use Rattle.control_table.specs.Faults.{IsFirstFault}
 use Rattle.control_table.specs.Table.{Sound}
 use Rattle.railway_layout.specs.declared.found.Found.{Found}
@@ -17,10 +15,10 @@ use Rattle.railway_layout.specs.Written.{StationText}
 
 -- ---- what is found
 
--- What a text is that is read so: a layout with a sound table, which is a station and has each port joined once as every layout; a
--- layout whose table has this first fault; or no layout, with this first fault.
+-- What a text is that is read so: a layout with a sound table, a layout whose table has this first fault, or no layout, with this
+-- first fault.
 abbrev pub IsOf : Read Site → Found → Type 0
-IsOf (Ok l) (Table m) = (m ≡ l) × Sound l × Once l × IsStation l
+IsOf (Ok l) (Table m) = (m ≡ l) × Sound l
 IsOf (Ok l) (NoLayout fault) = ⊥
 IsOf (Ok l) (Unsound fault) = IsFirstFault l fault
 IsOf (Err fault) (Table m) = ⊥

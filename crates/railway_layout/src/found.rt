@@ -36,10 +36,7 @@ fn judged(alloc: Global, layout: Layout) -> Result<Found, AllocError>
     ensures { IfOk result (IsOf (Ok layout)) }
 {
     match check(alloc, layout) {
-        Ok(table) => {
-            table.layout();
-            Ok(Found::Table(table))
-        }
+        Ok(table) => Ok(Found::Table(table)),
         Err(TableFault::OutOfMemory) => Err(AllocError),
         Err(fault) => Ok(Found::Unsound(fault)),
     }

@@ -21,11 +21,7 @@ mod written;
 pub use fault::{Place, RailwayFault, TextFault};
 pub use found::{Found, RailwayStation};
 pub use ids::StationId;
-pub use laws::{
-    each_end_names_what_is_there, each_line_is_locked, each_line_joins_two_stations,
-    each_station_has_its_layout, no_part_has_a_section_that_is_told, no_two_ends_have_one_lock,
-    no_two_ends_tell_one_section,
-};
+pub use laws::each_line_is_locked;
 pub use line::{Line, LineEnd};
 pub use railway::{Railway, Refused};
 pub use text::{is_railway, read_text};

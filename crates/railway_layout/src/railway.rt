@@ -125,15 +125,6 @@ impl Railway {
         &self.stations
     }
 
-    /// Its stations and its lines.
-    pub fn into_parts(self) -> (Vec<RailwayStation>, Vec<Line>)
-        ensures stations { result.0.items ≡ self.stations }
-        ensures lines { result.1.items ≡ self.lines }
-    {
-        let Self { stations, lines } = self;
-        (stations, lines)
-    }
-
     /// Its lines.
     pub fn lines(&self) -> &[Line]
         ensures { result.now ≡ self.now.lines }

@@ -1,0 +1,6 @@
+mod Texts
+mod OnDisk
+mod AtOnce
+mod HostBelow
+mod Steps
+mod Runs
