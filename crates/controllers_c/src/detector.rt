@@ -175,7 +175,8 @@ pub extern "C" fn zendurai_detector_start(
         first_sequence_number: setup.first_sequence_number,
         now,
     };
-    match Embedded::new(alloc, parties, start, detection, setup.version) {
+    let is_strict = setup.is_strict();
+    match Embedded::new(alloc, parties, start, detection, setup.version, is_strict) {
         Ok(it) => {
             handle.put(Held {
                 kind: Kind::Detector(it),

@@ -150,7 +150,15 @@ pub extern "C" fn zendurai_signal_start(
         first_sequence_number: setup.first_sequence_number,
         now,
     };
-    match Embedded::new(alloc, parties, start, Signal::new(), setup.version) {
+    let is_strict = setup.is_strict();
+    match Embedded::new(
+        alloc,
+        parties,
+        start,
+        Signal::new(),
+        setup.version,
+        is_strict,
+    ) {
         Ok(it) => {
             handle.put(Held {
                 kind: Kind::Signal(it),

@@ -18,6 +18,7 @@ mod passage;
 mod point_moves;
 mod proceed_rule;
 mod refusals;
+mod sections_noted;
 mod six_rules;
 mod step;
 mod withdrawal;

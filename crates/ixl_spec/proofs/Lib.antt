@@ -9,3 +9,4 @@ pub mod FirstRoute
 pub mod Uses
 pub mod Requests
 pub mod Operations
+pub mod CaughtUp

@@ -6,8 +6,8 @@ ghost use Rattle.line_laws.specs.Link.{coming_more};
 ghost use Rattle.line_laws.specs.Line.{Node, Whole, right_rules};
 ghost use Rattle.line_laws.specs.Line as line;
 ghost use Rattle.line_host.specs.Talk.{is_joined};
-ghost use Rattle.line_host.specs.Host.{HostHeard, HostState, host_step, looked, new_host, to_do, writes};
-ghost use Rattle.line_host.specs.Sites.{IsFileKept, IsNear, StepMade, all_after, kept_file};
+ghost use Rattle.line_host.specs.Host.{HostHeard, HostState, host_step, looked, new_host, to_do};
+ghost use Rattle.line_host.specs.Sites.{IsFileKept, IsNear, StepMade, all_after};
 ghost use Rattle.line_host.specs.declared.input.Input.{Input};
 ghost use Rattle.line_host.specs.declared.parties.Parties.{Parties};
 
@@ -16,13 +16,6 @@ ghost use Rattle.line_host.specs.declared.parties.Parties.{Parties};
 pub fn what_left_was_on_disk()
     ensures { (parties : Parties) (first_sequence_number now version : ℕ) (file : File) (steps : List StepMade)
         → IsFileKept (all_after steps (record { host = new_host parties first_sequence_number now version file; file = file })) }
-{}
-
-/// What a step asks for is what the end has then: a file that had the token and the lock of the end before the step, and was given
-/// what the step asks for, has those of the end after it.
-pub fn a_step_asks_for_what_the_end_has()
-    ensures { (now : ℕ) (input : Input) (seen : Seen) (host : HostState)
-        → kept_file (writes now input seen host) (file_of host.end.end) ≡ file_of (host_step now input seen host).end.end }
 {}
 
 /// After each step an end whose link isn't up, or whose partner hasn't agreed, is out of any connection. So it is so

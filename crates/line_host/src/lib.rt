@@ -11,10 +11,7 @@ mod report;
 mod talk;
 
 pub use input::Input;
-pub use laws::{
-    a_step_asks_for_what_the_end_has, looks_are_moves, unjoined_end_is_unlinked,
-    what_left_was_on_disk,
-};
+pub use laws::{looks_are_moves, unjoined_end_is_unlinked, what_left_was_on_disk};
 pub use line_end::{Position, Seen, Side};
 pub use line_file::{FileFault, Name};
 pub use line_host::LineHost;

@@ -6,7 +6,9 @@ use Rattle.std.proofs.lemmas.List.Elements.{Contains-get_or}
 use Rattle.std.proofs.lemmas.List.Quantifiers.{all_pairs_push}
 use Rattle.std.proofs.lemmas.Option.{same_Some, slice_get_within}
 use Rattle.toml.specs.Data.{Members}
+use Rattle.control_table.specs.layout.Entries.{Site}
 use Rattle.control_table.specs.layout.Once.{Distinct}
+use Rattle.replay_lines.specs.Names.{node_names}
 use Rattle.node_addresses.specs.Addresses.{AreIn, StandUnder, StandsUnder}
 use Rattle.node_addresses.specs.declared.network.Network.{Network}
 
@@ -70,10 +72,10 @@ one_more network others document names addresses name address before next stands
   omega (arith, length-append addresses (address ∷ []), slice_get_within names (length addresses) name next),
 )
 
-pub all_found : (network : Network) (others : List SocketAddr) (names : List (List ℕ)) (document : Members) (addresses : List SocketAddr) → AreSoFar network others document names addresses
-    → slice_get names (length addresses) ≡ None → AreIn network others names document addresses
-all_found network others names document addresses found none = record {
-  count = omega (arith, past names (length addresses) none, found.2);
+pub all_found : (network : Network) (others : List SocketAddr) (site : Site) (document : Members) (addresses : List SocketAddr) → AreSoFar network others document (node_names site) addresses
+    → slice_get (node_names site) (length addresses) ≡ None → AreIn network others site document addresses
+all_found network others site document addresses found none = record {
+  count = omega (arith, past (node_names site) (length addresses) none, found.2);
   each = found.0;
   once = found.1;
 }

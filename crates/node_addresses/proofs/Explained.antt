@@ -3,6 +3,8 @@ use Rattle.std.proofs.Common.{◌≡◌, ℕ, List, length, None, Some, slice_ge
 use Rattle.std.specs.declared.net.socket_addr.SocketAddr.{SocketAddr}
 use Rattle.toml.specs.Data.{Members}
 use Rattle.toml.specs.Parse.{parse_document}
+use Rattle.control_table.specs.layout.Entries.{Site}
+use Rattle.replay_lines.specs.Names.{node_names}
 use Rattle.node_addresses.specs.declared.fault.AddressesFault.{AddressesFault}
 use Rattle.node_addresses.specs.declared.fault.AddressesFault.TheVariants.{Toml, MissingNode, WrongAddress, DoubleAddress, UnknownNode, WrongName, OutOfMemory}
 use Rattle.node_addresses.specs.declared.network.Network.{Network}
@@ -30,21 +32,21 @@ anyway WrongName said = said
 anyway OutOfMemory said = tt
 
 -- reading stops at the node that comes next
-pub stops_there : (network : Network) (others : List SocketAddr) (names : List (List ℕ)) (document : Members) (before : List SocketAddr) (name : List ℕ) (fault : AddressesFault) → AreSoFar network others document names before
-    → slice_get names (length before) ≡ Some name → HasNone network others document name before fault → UnlessMemory fault (StopsIn network others names document fault)
-stops_there network others names document before name fault found next why =
+pub stops_there : (network : Network) (others : List SocketAddr) (site : Site) (document : Members) (before : List SocketAddr) (name : List ℕ) (fault : AddressesFault) → AreSoFar network others document (node_names site) before
+    → slice_get (node_names site) (length before) ≡ Some name → HasNone network others document name before fault → UnlessMemory fault (StopsIn network others site document fault)
+stops_there network others site document before name fault found next why =
     anyway fault (record { before = before; each = found.0; once = found.1; name = name; is_next = next; why = why })
 
-module _ (names : List (List ℕ)) (text : List ℕ) where
-  pub document_fault : (fault : AddressesFault) → UnlessMemory fault ((fault ≡ Toml) × (parse_document text ≡ None)) → UnlessMemory fault (IsFault names text fault)
-  document_fault fault said = unless_memory fault (λ is. subst (λ (f : AddressesFault). IsFault names text f) (sym is.0) (no_toml is.1)) said
+module _ (site : Site) (text : List ℕ) where
+  pub document_fault : (fault : AddressesFault) → UnlessMemory fault ((fault ≡ Toml) × (parse_document text ≡ None)) → UnlessMemory fault (IsFault site text fault)
+  document_fault fault said = unless_memory fault (λ is. subst (λ (f : AddressesFault). IsFault site text f) (sym is.0) (no_toml is.1)) said
 
-  pub node_fault : (document : Members) (fault : AddressesFault) → parse_document text ≡ Some document → UnlessMemory fault (StopsAtNode names document fault) → UnlessMemory fault (IsFault names text fault)
+  pub node_fault : (document : Members) (fault : AddressesFault) → parse_document text ≡ Some document → UnlessMemory fault (StopsAtNode site document fault) → UnlessMemory fault (IsFault site text fault)
   node_fault document fault is said = unless_memory fault (λ stops. at_node is stops) said
 
-  pub key_fault : (document : Members) (addresses : List SocketAddr) (fault : AddressesFault) → parse_document text ≡ Some document → AreOfNodes names document addresses
-      → unknown_key names document ≡ Some fault → UnlessMemory fault (IsFault names text fault)
+  pub key_fault : (document : Members) (addresses : List SocketAddr) (fault : AddressesFault) → parse_document text ≡ Some document → AreOfNodes site document addresses
+      → unknown_key site document ≡ Some fault → UnlessMemory fault (IsFault site text fault)
   key_fault document addresses fault is nodes unknown = anyway fault (at_key is nodes unknown)
 
-  pub only_where_none : (fault : AddressesFault) → UnlessMemory fault (IsFault names text fault) → UnlessMemory fault ((addresses : List SocketAddr) → IsSound names text addresses → ⊥)
-  only_where_none fault said = unless_memory fault (λ is. refuted names text fault is) said
+  pub only_where_none : (fault : AddressesFault) → UnlessMemory fault (IsFault site text fault) → UnlessMemory fault ((addresses : List SocketAddr) → IsSound site text addresses → ⊥)
+  only_where_none fault said = unless_memory fault (λ is. refuted site text fault is) said

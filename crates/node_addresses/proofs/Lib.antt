@@ -3,4 +3,3 @@ pub mod Refuted
 pub mod Explained
 pub mod NetworksExplained
 pub mod Among
-pub mod NodeNames

@@ -9,6 +9,8 @@ use Rattle.std.proofs.lemmas.Bool.{cases_lt}
 use Rattle.std.proofs.lemmas.List.{get_or-append-add, get_or_append_left}
 use Rattle.std.proofs.lemmas.Option.{get_or_from_slice_get, same_Some, slice_get-get_or, slice_get_within}
 use Rattle.toml.specs.Data.{Data, Members}
+use Rattle.control_table.specs.layout.Entries.{Site}
+use Rattle.replay_lines.specs.Names.{node_names}
 use Rattle.node_addresses.specs.declared.fault.AddressesFault.{AddressesFault}
 use Rattle.node_addresses.specs.declared.fault.AddressesFault.TheVariants.{Toml, MissingNode, WrongAddress, DoubleAddress, UnknownNode, WrongName, OutOfMemory}
 use Rattle.node_addresses.specs.declared.network.Network.{Network}
@@ -30,11 +32,11 @@ unique network document key one other p q =
     let text : q.2.0 ≡ p.2.0 = same_Some q.2.0 p.2.0 (sym q.2.1 ∙ ap (text_in network) value ∙ p.2.1) in
     IsSocketText_unique p.2.0 one other p.2.2.0 (subst (λ (t : List ℕ). IsSocketText t other) text q.2.2.0)
 
-module _ (network : Network) (others : List SocketAddr) (names : List (List ℕ)) (document : Members) (addresses : List SocketAddr) (nodes : AreIn network others names document addresses) where
+module _ (network : Network) (others : List SocketAddr) (site : Site) (document : Members) (addresses : List SocketAddr) (nodes : AreIn network others site document addresses) where
   -- the address of the node at a place
-  pub at_place : (place : ℕ) (name : List ℕ) → slice_get names place ≡ Some name → (address : SocketAddr) × (slice_get addresses place ≡ Some address) × StandsUnder network document name address
+  pub at_place : (place : ℕ) (name : List ℕ) → slice_get (node_names site) place ≡ Some name → (address : SocketAddr) × (slice_get addresses place ≡ Some address) × StandsUnder network document name address
   at_place place name is =
-      let within : place < length addresses = omega (arith, slice_get_within names place name is, nodes.count) in
+      let within : place < length addresses = omega (arith, slice_get_within (node_names site) place name is, nodes.count) in
       let here = something_at addresses place within in
       let stands = nodes.each place here.0 here.1 in
       (here.0, here.1, subst (λ (n : List ℕ). StandsUnder network document n here.0) (same_Some stands.0 name (sym stands.1 ∙ is)) stands.2)
@@ -44,7 +46,7 @@ module _ (network : Network) (others : List SocketAddr) (names : List (List ℕ)
   in_all place address at d = get_or-append-add others addresses place d ∙ get_or_from_slice_get addresses place address d at
 
   -- the place of one that was taken, among all of them
-  taken_at : (before : List SocketAddr) (address : SocketAddr) → StandUnder network document names before → Contains (others ++ before) address
+  taken_at : (before : List SocketAddr) (address : SocketAddr) → StandUnder network document (node_names site) before → Contains (others ++ before) address
       → (k : ℕ) × (k < length others + length before) × (get_or (others ++ addresses) k address ≡ address)
   taken_at before address each among =
       let total = length-append others before in
@@ -64,8 +66,8 @@ module _ (network : Network) (others : List SocketAddr) (names : List (List ℕ)
       ]
 
   -- an address that is taken already can't be that of the next
-  double : (before : List SocketAddr) (name : List ℕ) (address : SocketAddr) → StandUnder network document names before
-      → slice_get names (length before) ≡ Some name → StandsUnder network document name address → Contains (others ++ before) address → ⊥
+  double : (before : List SocketAddr) (name : List ℕ) (address : SocketAddr) → StandUnder network document (node_names site) before
+      → slice_get (node_names site) (length before) ≡ Some name → StandsUnder network document name address → Contains (others ++ before) address → ⊥
   double before name address each next stands among =
       let second = at_place (length before) name next in
       let same : address ≡ second.0 = unique network document name address second.0 stands second.2 in
@@ -75,7 +77,7 @@ module _ (network : Network) (others : List SocketAddr) (names : List (List ℕ)
       nodes.once earlier.0 (length others + length before) address earlier.1 (omega (arith, last, total))
       (earlier.2 ∙ same ∙ sym (in_all (length before) second.0 second.1 address))
 
-  at_node_refuted : (fault : AddressesFault) → StopsIn network others names document fault → ⊥
+  at_node_refuted : (fault : AddressesFault) → StopsIn network others site document fault → ⊥
   at_node_refuted fault stops = by fault stops.why
     where
       here : (address : SocketAddr) × (slice_get addresses (length stops.before) ≡ Some address) × StandsUnder network document stops.name address
@@ -90,11 +92,11 @@ module _ (network : Network) (others : List SocketAddr) (names : List (List ℕ)
       by WrongName why = why
       by OutOfMemory why = why
 
-pub refuted : (names : List (List ℕ)) (text : List ℕ) (fault : AddressesFault) → IsFault names text fault → (addresses : List SocketAddr) → IsSound names text addresses → ⊥
-refuted names text Toml (no_toml none) addresses sound = none_some (sym none ∙ sound.is_toml)
-refuted names text fault (at_node {document} is stops) addresses sound =
+pub refuted : (site : Site) (text : List ℕ) (fault : AddressesFault) → IsFault site text fault → (addresses : List SocketAddr) → IsSound site text addresses → ⊥
+refuted site text Toml (no_toml none) addresses sound = none_some (sym none ∙ sound.is_toml)
+refuted site text fault (at_node {document} is stops) addresses sound =
     let same : sound.document ≡ document = same_Some sound.document document (sym sound.is_toml ∙ is) in
-    at_node_refuted Alone [] names document addresses (subst (λ (d : Members). AreOfNodes names d addresses) same sound.of_nodes) fault stops
-refuted names text fault (at_key {document} is nodes unknown) addresses sound =
+    at_node_refuted Alone [] site document addresses (subst (λ (d : Members). AreOfNodes site d addresses) same sound.of_nodes) fault stops
+refuted site text fault (at_key {document} is nodes unknown) addresses sound =
     let same : sound.document ≡ document = same_Some sound.document document (sym sound.is_toml ∙ is) in
-    none_some (sym (subst (λ (d : Members). unknown_key names d ≡ None) same sound.no_others) ∙ unknown)
+    none_some (sym (subst (λ (d : Members). unknown_key site d ≡ None) same sound.no_others) ∙ unknown)

@@ -1,15 +1,17 @@
--- Which text gives each node an address of its own, or one in each of two networks, and what is wrong with another. The nodes are told by
--- their names, in their order.
-use Rattle.std.specs.Prelude.{◌≡◌, ◌≢◌, ℕ, if◌then◌else◌, Bool, true, false, List, [], ◌∷◌, ◌++◌, length, Option, Some, None, slice_get}
-use Rattle.std.specs.List.{Contains, list_any}
-use Rattle.std.specs.Str.{bytes_eq}
+-- Which text gives each node of a station an address of its own, or one in each of two networks, and what is wrong with another.
+use Rattle.std.specs.Prelude.{◌≡◌, ◌≢◌, ℕ, if◌then◌else◌, Bool, true, false, List, [], ◌∷◌, ◌++◌, length, Option, Some, None, slice_get, Result, Ok, Err}
+use Rattle.std.specs.List.{Contains}
 use Rattle.std.specs.Option.{option_and_then}
 use Rattle.std.specs.Net.Grammar.{IsSocketText}
 use Rattle.std.specs.Net.Socket.{socket_port}
 use Rattle.std.specs.declared.net.socket_addr.SocketAddr.{SocketAddr}
 use Rattle.toml.specs.Data.{Data, Items, no_items, item, Members, no_members, member, get_member, as_array, as_str}
 use Rattle.toml.specs.Parse.{parse_document}
+use Rattle.replay_words.specs.declared.fault.Fault.{Fault}
+use Rattle.control_table.specs.layout.Entries.{Site}
 use Rattle.control_table.specs.layout.Once.{Distinct}
+use Rattle.control_table.specs.layout.declared.ids.NodeId.{NodeId}
+use Rattle.replay_lines.specs.Names.{node_named, node_names}
 use Rattle.node_addresses.specs.Keys.{is_name}
 use Rattle.node_addresses.specs.declared.fault.AddressesFault.{AddressesFault}
 use Rattle.node_addresses.specs.declared.network.Network.{Network}
@@ -55,34 +57,35 @@ abbrev pub StandUnder : Network → Members → List (List ℕ) → List SocketA
 StandUnder network document names addresses = (place : ℕ) (address : SocketAddr) → slice_get addresses place ≡ Some address
     → (name : List ℕ) × (slice_get names place ≡ Some name) × StandsUnder network document name address
 
--- Each node has its address in a network, in their order, and no two have the same, nor one of these others.
-pub record AreIn (network : Network) (others : List SocketAddr) (names : List (List ℕ)) (document : Members) (addresses : List SocketAddr) : Type 0 where
-  pub count : length addresses ≡ length names
-  pub each : StandUnder network document names addresses
+-- Each node has its address in a network, in the order of the layout's nodes, and no two have the same, nor one of these others.
+pub record AreIn (network : Network) (others : List SocketAddr) (site : Site) (document : Members) (addresses : List SocketAddr) : Type 0 where
+  pub count : length addresses ≡ length (node_names site)
+  pub each : StandUnder network document (node_names site) addresses
   pub once : Distinct (others ++ addresses)
 
 -- in the only network
-abbrev pub AreOfNodes : List (List ℕ) → Members → List SocketAddr → Type 0
+abbrev pub AreOfNodes : Site → Members → List SocketAddr → Type 0
 AreOfNodes = AreIn Alone []
 
 -- a key that hasn't the form of a name isn't told
 abbrev pub unknown : List ℕ → AddressesFault
 unknown key = if is_name key then UnknownNode key else WrongName
 
-abbrev pub is_named : List (List ℕ) → List ℕ → Bool
-is_named names key = list_any (λ name. bytes_eq name key) names
+abbrev pub unless_node : Result NodeId Fault → List ℕ → Option AddressesFault → Option AddressesFault
+unless_node (Ok node) key behind = behind
+unless_node (Err fault) key behind = Some (unknown key)
 
 -- the fault of the first key that names no node
-abbrev pub unknown_key : List (List ℕ) → Members → Option AddressesFault
-unknown_key names no_members = None
-unknown_key names (member key value behind) = if is_named names key then unknown_key names behind else Some (unknown key)
+abbrev pub unknown_key : Site → Members → Option AddressesFault
+unknown_key site no_members = None
+unknown_key site (member key value behind) = unless_node (node_named site key) key (unknown_key site behind)
 
 -- A text is an addresses file, and these are its addresses.
-pub record IsSound (names : List (List ℕ)) (text : List ℕ) (addresses : List SocketAddr) : Type 0 where
+pub record IsSound (site : Site) (text : List ℕ) (addresses : List SocketAddr) : Type 0 where
   pub document : Members
   pub is_toml : parse_document text ≡ Some document
-  pub of_nodes : AreOfNodes names document addresses
-  pub no_others : unknown_key names document ≡ None
+  pub of_nodes : AreOfNodes site document addresses
+  pub no_others : unknown_key site document ≡ None
 
 -- ---- faults
 
@@ -95,24 +98,24 @@ HasNone network others document name before (DoubleAddress told) =
     (told ≡ name) × (address : SocketAddr) × StandsUnder network document name address × Contains (others ++ before) address
 HasNone network others document name before _ = ⊥
 
--- The first node that has no address of its own in a network.
-pub record StopsIn (network : Network) (others : List SocketAddr) (names : List (List ℕ)) (document : Members) (fault : AddressesFault) : Type 0 where
+-- The first node in the order of the layout that has no address of its own in a network.
+pub record StopsIn (network : Network) (others : List SocketAddr) (site : Site) (document : Members) (fault : AddressesFault) : Type 0 where
   pub before : List SocketAddr
-  pub each : StandUnder network document names before
+  pub each : StandUnder network document (node_names site) before
   pub once : Distinct (others ++ before)
   pub name : List ℕ
-  pub is_next : slice_get names (length before) ≡ Some name
+  pub is_next : slice_get (node_names site) (length before) ≡ Some name
   pub why : HasNone network others document name before fault
 
-abbrev pub StopsAtNode : List (List ℕ) → Members → AddressesFault → Type 0
+abbrev pub StopsAtNode : Site → Members → AddressesFault → Type 0
 StopsAtNode = StopsIn Alone []
 
 -- which fault a text has, where it is no addresses file
-pub data IsFault (names : List (List ℕ)) (text : List ℕ) : AddressesFault → Type 0 where
-  no_toml : parse_document text ≡ None → IsFault names text Toml
-  at_node : {document : Members} {fault : AddressesFault} → parse_document text ≡ Some document → StopsAtNode names document fault → IsFault names text fault
-  at_key : {document : Members} {fault : AddressesFault} {addresses : List SocketAddr} → parse_document text ≡ Some document → AreOfNodes names document addresses
-      → unknown_key names document ≡ Some fault → IsFault names text fault
+pub data IsFault (site : Site) (text : List ℕ) : AddressesFault → Type 0 where
+  no_toml : parse_document text ≡ None → IsFault site text Toml
+  at_node : {document : Members} {fault : AddressesFault} → parse_document text ≡ Some document → StopsAtNode site document fault → IsFault site text fault
+  at_key : {document : Members} {fault : AddressesFault} {addresses : List SocketAddr} → parse_document text ≡ Some document → AreOfNodes site document addresses
+      → unknown_key site document ≡ Some fault → IsFault site text fault
 
 -- want of memory is told in place of all else
 abbrev pub UnlessMemory : AddressesFault → Type 0 → Type 0

@@ -12,7 +12,7 @@ use Rattle.node_addresses.specs.declared.fault.AddressesFault.TheVariants.{Toml}
 use Rattle.node_addresses.specs.declared.network.Network.TheVariants.{Alone, First, Second}
 
 -- The addresses of all nodes in the first network, or the only one, and those in the second, where there are two; each in the order of
--- the nodes.
+-- the layout's nodes.
 pub record NetworksState : Type 0 where
   pub first : List SocketAddr
   pub second : Option (List SocketAddr)
@@ -22,42 +22,33 @@ abbrev pub array_under : Members → Option (List ℕ) → Bool
 array_under document None = false
 array_under document (Some key) = is_some (option_and_then as_array (get_member key document))
 
--- there are two networks where an array stands under the name of the first node
-abbrev pub has_two : List (List ℕ) → Members → Bool
-has_two names document = array_under document (slice_get names 0)
+-- there are two networks where an array stands under the name of the first node, which is the station's
+abbrev pub has_two : Site → Members → Bool
+has_two site document = array_under document (slice_get (node_names site) 0)
 
 -- each node has its address in each network, and no two addresses are the same
-pub data AreNetworks (names : List (List ℕ)) (document : Members) : NetworksState → Type 0 where
-  one : {addresses : List SocketAddr} → has_two names document ≡ false → AreIn Alone [] names document addresses
-      → AreNetworks names document (record { first = addresses; second = None })
-  two : {first second : List SocketAddr} → has_two names document ≡ true → AreIn First [] names document first → AreIn Second first names document second
-      → AreNetworks names document (record { first = first; second = Some second })
+pub data AreNetworks (site : Site) (document : Members) : NetworksState → Type 0 where
+  one : {addresses : List SocketAddr} → has_two site document ≡ false → AreIn Alone [] site document addresses
+      → AreNetworks site document (record { first = addresses; second = None })
+  two : {first second : List SocketAddr} → has_two site document ≡ true → AreIn First [] site document first → AreIn Second first site document second
+      → AreNetworks site document (record { first = first; second = Some second })
 
 -- A text is an addresses file of one network or of two, and these are its addresses.
-pub record IsSoundOf (names : List (List ℕ)) (text : List ℕ) (networks : NetworksState) : Type 0 where
+pub record IsSoundIn (site : Site) (text : List ℕ) (networks : NetworksState) : Type 0 where
   pub document : Members
   pub is_toml : parse_document text ≡ Some document
-  pub of_nodes : AreNetworks names document networks
-  pub no_others : unknown_key names document ≡ None
+  pub of_nodes : AreNetworks site document networks
+  pub no_others : unknown_key site document ≡ None
 
 -- Which fault such a text has, where it is none: at the first node that has no address of its own, in the first network before the
 -- second, or at the first key that is the name of no node.
-pub data IsFaultOf (names : List (List ℕ)) (text : List ℕ) : AddressesFault → Type 0 where
-  no_toml : parse_document text ≡ None → IsFaultOf names text Toml
-  alone : {document : Members} {fault : AddressesFault} → parse_document text ≡ Some document → has_two names document ≡ false → StopsIn Alone [] names document fault
-      → IsFaultOf names text fault
-  in_first : {document : Members} {fault : AddressesFault} → parse_document text ≡ Some document → has_two names document ≡ true → StopsIn First [] names document fault
-      → IsFaultOf names text fault
-  in_second : {document : Members} {fault : AddressesFault} {first : List SocketAddr} → parse_document text ≡ Some document → has_two names document ≡ true
-      → AreIn First [] names document first → StopsIn Second first names document fault → IsFaultOf names text fault
-  at_key : {document : Members} {fault : AddressesFault} {networks : NetworksState} → parse_document text ≡ Some document → AreNetworks names document networks
-      → unknown_key names document ≡ Some fault → IsFaultOf names text fault
-
--- ---- of a station
-
--- in the order of its layout's nodes: the station, the signals, the points and the detectors
-abbrev pub IsSoundIn : Site → (text : List ℕ) → NetworksState → Type 0
-IsSoundIn site text networks = IsSoundOf (node_names site) text networks
-
-abbrev pub IsFaultIn : Site → (text : List ℕ) → AddressesFault → Type 0
-IsFaultIn site text fault = IsFaultOf (node_names site) text fault
+pub data IsFaultIn (site : Site) (text : List ℕ) : AddressesFault → Type 0 where
+  no_toml : parse_document text ≡ None → IsFaultIn site text Toml
+  alone : {document : Members} {fault : AddressesFault} → parse_document text ≡ Some document → has_two site document ≡ false → StopsIn Alone [] site document fault
+      → IsFaultIn site text fault
+  in_first : {document : Members} {fault : AddressesFault} → parse_document text ≡ Some document → has_two site document ≡ true → StopsIn First [] site document fault
+      → IsFaultIn site text fault
+  in_second : {document : Members} {fault : AddressesFault} {first : List SocketAddr} → parse_document text ≡ Some document → has_two site document ≡ true
+      → AreIn First [] site document first → StopsIn Second first site document fault → IsFaultIn site text fault
+  at_key : {document : Members} {fault : AddressesFault} {networks : NetworksState} → parse_document text ≡ Some document → AreNetworks site document networks
+      → unknown_key site document ≡ Some fault → IsFaultIn site text fault

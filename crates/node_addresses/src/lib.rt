@@ -1,4 +1,4 @@
-//! The addresses file of a station, or of a line: an IP address and a port for each of its nodes.
+//! The addresses file of a station: an IP address and a port for each of its nodes.
 #![tactic(auto)]
 
 mod address_read;
@@ -10,7 +10,7 @@ mod text;
 
 pub use fault::AddressesFault;
 pub use network::Network;
-pub use networks::{Networks, read_networks, read_networks_of};
+pub use networks::{Networks, read_networks};
 pub use text::read_addresses;
 
 // What crates above need of the crates below.

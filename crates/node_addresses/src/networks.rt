@@ -4,17 +4,16 @@ ghost use Rattle.std.specs.Prelude.{◌≡◌, IfErr, IfOk, Some};
 ghost use Rattle.std.specs.Option.{option_map};
 ghost use Rattle.toml.specs.View.{table_view};
 ghost use Rattle.node_addresses.specs.Addresses.{UnlessMemory};
-ghost use Rattle.replay_lines.specs.Names.{node_names};
-ghost use Rattle.node_addresses.specs.Networks.{AreNetworks, IsFaultIn, IsFaultOf, IsSoundIn, IsSoundOf, array_under, has_two};
+ghost use Rattle.node_addresses.specs.Networks.{AreNetworks, IsFaultIn, IsSoundIn, array_under, has_two};
 ghost use Rattle.node_addresses.specs.inside.NetworksRead.{StopsInNetworks};
 
 use crate::address_read::value_under;
 use crate::fault::AddressesFault;
 use crate::keys::check_keys;
 use crate::network::Network;
-use crate::text::{addresses_of, document, name_at};
+use crate::text::{addresses_of, document};
 use control_table::{Layout, Name, NodeId};
-use std::alloc::{AllocError, Global};
+use std::alloc::Global;
 use std::marker::Model;
 use std::net::SocketAddr;
 use toml::Table;
@@ -55,56 +54,32 @@ impl Networks {
     }
 }
 
-/// The addresses of a station's nodes in one network or in two, in the order of the layout's nodes. The text is TOML with one key for
-/// each node, as `IXL1 = "10.0.1.1:5001"` with one network, or `IXL1 = ["10.0.1.1:5001", "10.0.2.1:5001"]` with two; all nodes have the
-/// same number. The first fault is told where the text is none. `OutOfMemory` comes only where memory was refused.
+/// The addresses of a station's nodes in one network or in two. The text is TOML with one key for each node, as
+/// `IXL1 = "10.0.1.1:5001"` with one network, or `IXL1 = ["10.0.1.1:5001", "10.0.2.1:5001"]` with two; all nodes have the same number.
+/// The first fault is told where the text is none. `OutOfMemory` comes only where memory was refused.
 pub fn read_networks(alloc: Global, layout: &Layout, text: &str) -> Result<Networks, AddressesFault>
     ensures sound { IfOk result (IsSoundIn layout.now text.now) }
     ensures fault { IfErr result (λ fault. UnlessMemory fault (IsFaultIn layout.now text.now fault)) }
 {
-    let names = node_names(alloc, layout)?;
-    read_networks_of(alloc, &names, text)
-}
-
-/// The same for the nodes of these names, in their order.
-pub fn read_networks_of(
-    alloc: Global,
-    names: &[Name],
-    text: &str,
-) -> Result<Networks, AddressesFault>
-    ensures sound { IfOk result (IsSoundOf names.now text.now) }
-    ensures fault { IfErr result (λ fault. UnlessMemory fault (IsFaultOf names.now text.now fault)) }
-{
     let document = document(alloc, text)?;
-    let networks = networks_of(alloc, names, &document)?;
-    check_keys(names, &document)?;
+    let networks = networks_of(alloc, layout, &document)?;
+    check_keys(layout, &document)?;
     Ok(networks)
 }
 
-/// The names of a layout's nodes.
-fn node_names(alloc: Global, layout: &Layout) -> Result<Vec<Name>, AllocError>
-    ensures { IfOk result (λ names. names.items ≡ node_names layout.now) }
+fn networks_of(alloc: Global, layout: &Layout, document: &Table) -> Result<Networks, AddressesFault>
+    ensures found { IfOk result (AreNetworks layout.now (table_view document.now)) }
+    ensures fault { IfErr result (λ fault. UnlessMemory fault (StopsInNetworks layout.now (table_view document.now) fault)) }
 {
-    let mut names = Vec::new(alloc);
-    while let Some(name) = layout.node_name(NodeId(names.len())) {
-        names.push(name)?;
-    }
-    Ok(names)
-}
-
-fn networks_of(alloc: Global, names: &[Name], document: &Table) -> Result<Networks, AddressesFault>
-    ensures found { IfOk result (AreNetworks names.now (table_view document.now)) }
-    ensures fault { IfErr result (λ fault. UnlessMemory fault (StopsInNetworks names.now (table_view document.now) fault)) }
-{
-    if !has_two(names, document) {
-        let first = addresses_of(alloc, names, document, Network::Alone, &[])?;
+    if !has_two(layout, document) {
+        let first = addresses_of(alloc, layout, document, Network::Alone, &[])?;
         return Ok(Networks {
             first,
             second: None,
         });
     }
-    let first = addresses_of(alloc, names, document, Network::First, &[])?;
-    let second = addresses_of(alloc, names, document, Network::Second, &first)?;
+    let first = addresses_of(alloc, layout, document, Network::First, &[])?;
+    let second = addresses_of(alloc, layout, document, Network::Second, &first)?;
     Ok(Networks {
         first,
         second: Some(second),
@@ -112,10 +87,10 @@ fn networks_of(alloc: Global, names: &[Name], document: &Table) -> Result<Networ
 }
 
 /// Whether an array stands under the name of the first node.
-fn has_two(names: &[Name], document: &Table) -> bool
-    ensures { result ≡ has_two names.now (table_view document.now) }
+fn has_two(layout: &Layout, document: &Table) -> bool
+    ensures { result ≡ has_two layout.now (table_view document.now) }
 {
-    match name_at(names, 0) {
+    match layout.node_name(NodeId(0)) {
         Some(name) => is_array(document, &name),
         None => false,
     }

@@ -57,7 +57,14 @@ impl<C: Controller> SteppedHost<C> {
             peer_name: station.name,
             key: key_of(layout),
         };
-        let hosted = Hosted::new(alloc, parties, start, object, table.version())?;
+        let hosted = Hosted::new(
+            alloc,
+            parties,
+            start,
+            object,
+            table.version(),
+            station.trains,
+        )?;
         Ok(SteppedHost {
             hosted,
             reached: start.now,

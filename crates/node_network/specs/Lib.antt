@@ -9,5 +9,3 @@ pub mod Shares
 pub mod Intakes
 pub mod Sockets
 pub mod News
--- what crates above need of the crates below
-pub use Rattle.node_drive.specs as node_drive

@@ -2,7 +2,7 @@
 use Rattle.std.specs.Prelude.{◌≡◌, ◌&&◌, not, Bool, true, false, Option, Some, None}
 use Rattle.node_network.specs.Lines.{nothing_waits}
 use Rattle.node_network.specs.declared.lines.Kind.{Kind}
-use Rattle.node_network.specs.declared.lines.Kind.TheVariants.{Field, Equipment, Operator, Connection}
+use Rattle.node_network.specs.declared.lines.Kind.TheVariants.{Field, Operator, Connection}
 use Rattle.node_network.specs.declared.stream_lines.StreamLines.{StreamLines}
 
 -- whether somebody is there
@@ -17,13 +17,7 @@ first_lines input output = record { input = record { input = input; buffer = not
 -- lines of field equipment
 abbrev pub is_field : {R I O S L : Type 0} → Kind R I O S L → Bool
 is_field (Field lines) = true
-is_field (Equipment lines) = true
 is_field lines = false
-
--- field equipment whose connection was lost
-abbrev pub is_lost : {R I O S L : Type 0} → Kind R I O S L → Bool
-is_lost (Equipment lines) = not (is_there lines)
-is_lost lines = false
 
 -- an operator over a connection who isn't there
 abbrev pub IsForNobody : {R I O S L : Type 0} → Kind R I O S L → Type 0
@@ -33,7 +27,6 @@ IsForNobody lines = ⊥
 -- Field equipment never does, an operator on the streams at the first question, and one over a connection who is there and wasn't.
 abbrev pub began : {R I O S L : Type 0} → Kind R I O S L → Kind R I O S L → Bool
 began (Field lines) after = false
-began (Equipment lines) after = false
 began (Operator lines) after = not lines.told
 began (Connection lines) (Connection after) = not (is_there lines.operator) && is_there after.operator
 began (Connection lines) after = false

@@ -4,6 +4,7 @@ ghost use Rattle.std.specs.Prelude.{◌≡◌};
 
 use crate::calling_lines::CallingLines;
 use crate::node_clock::NodeClock;
+use crate::other_end::{next_line, write_line_to};
 use node_drive::{BrokenOff, Fault, NextDatagram, NextLine, NodeId, Outside, ThrownAway, ToKeep};
 use std::alloc::{AllocError, Global};
 use std::net::{Net, SocketAddr};
@@ -28,10 +29,16 @@ impl<'a, R: Net + Timer> Caller<'a, R> {
     ) -> Caller<'a, R>
         ensures { result.clock.latest ≡ clock.entry.latest }
     {
+        let lines = CallingLines {
+            net,
+            address,
+            node: None,
+            left: 0,
+        };
         Caller {
             alloc,
             clock,
-            lines: CallingLines::new(net, address),
+            lines,
         }
     }
 }
@@ -54,7 +61,7 @@ impl<'a, R: Net + Timer> Outside for Caller<'a, R> {
     }
 
     fn next_line(&mut self, alloc: Global) -> Result<NextLine, AllocError> {
-        self.lines.next_line(alloc)
+        next_line(&mut self.lines.node, alloc)
     }
 
     fn next_datagram(&mut self) -> NextDatagram {
@@ -69,7 +76,7 @@ impl<'a, R: Net + Timer> Outside for Caller<'a, R> {
     }
 
     fn write_line(&mut self, text: &str) -> Result<(), BrokenOff> {
-        self.lines.write_line(self.alloc, text)
+        write_line_to(&mut self.lines.node, self.alloc, text)
     }
 
     fn send(&mut self, _to: NodeId, _bytes: &[u8]) {}

@@ -1,45 +1,28 @@
-//! Lines to and from a process that is called.
+//! Lines to and from a node, as its operator has them.
 
-ghost use Rattle.std.specs.Prelude.{◌≡◌, ◌&&◌, IfOk, Ok, OnOk, false, not, true};
-ghost use Rattle.node_drive.specs.declared.outside.NextLine.TheVariants.{Closed};
+ghost use Rattle.std.specs.Prelude.{◌≡◌, ◌&&◌, false, not, true};
 ghost use Rattle.node_network.specs.Listeners.{is_there};
 
 use crate::line_input::LineInput;
-use crate::other_end::{connect, next_line, write_line_to};
-use node_drive::{BrokenOff, NextLine};
-use std::alloc::{AllocError, Global};
+use crate::other_end::connect;
 use std::net::{Net, SocketAddr};
 
-/// How many questions whether a process is there pass between two calls of it.
+/// How many questions whether a node is there pass between two calls of it.
 const PATIENCE: u64 = 100;
 
-/// Lines over a connection to a process at an address. It is made anew where it was lost.
+/// The lines of a node's operator, over a connection to an address. It is made anew where it was lost.
 #[derive(Drop)]
-pub struct CallingLines<'a, R: Net> {
-    net: &'a R,
-    address: SocketAddr,
-    node: Option<LineInput<R::Stream>>,
+pub(crate) struct CallingLines<'a, R: Net> {
+    pub(crate) net: &'a R,
+    pub(crate) address: SocketAddr,
+    pub(crate) node: Option<LineInput<R::Stream>>,
     /// How many questions pass until the next call.
-    left: u64,
+    pub(crate) left: u64,
 }
 
 impl<'a, R: Net> CallingLines<'a, R> {
-    /// The process at this address wasn't called yet.
-    pub fn new(net: &'a R, address: SocketAddr) -> CallingLines<'a, R>
-        ensures nobody { is_there result.node ≡ false }
-        // So the first question calls it.
-        ensures first { result.left ≡ 0 }
-    {
-        CallingLines {
-            net,
-            address,
-            node: None,
-            left: 0,
-        }
-    }
-
-    /// Whether it was reached since the last question.
-    pub fn has_listener(&mut self) -> bool
+    /// Whether the node was reached since the last question.
+    pub(crate) fn has_listener(&mut self) -> bool
         ensures came { result ≡ not (is_there self.old.node) && is_there self.new.node }
         ensures stays { is_there self.old.node ≡ true → self.new.node ≡ self.old.node }
     {
@@ -55,20 +38,5 @@ impl<'a, R: Net> CallingLines<'a, R> {
             Ok(stream) => connect(&mut self.node, stream),
             Err(_) => false,
         }
-    }
-
-    /// The next line, if there is one. None comes any more where nobody is there.
-    pub fn next_line(&mut self, alloc: Global) -> Result<NextLine, AllocError>
-        ensures nobody { is_there self.old.node ≡ false → result ≡ Ok Closed }
-        ensures gone { IfOk result (λ answer. answer ≡ Closed → is_there self.new.node ≡ false) }
-    {
-        next_line(&mut self.node, alloc)
-    }
-
-    /// Writes a line. The connection is closed where it can't be written at once.
-    pub fn write_line(&mut self, alloc: Global, text: &str) -> Result<(), BrokenOff>
-        ensures there { OnOk result (is_there self.old.node ≡ true) }
-    {
-        write_line_to(&mut self.node, alloc, text)
     }
 }

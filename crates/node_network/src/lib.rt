@@ -28,11 +28,10 @@ mod stream_lines;
 mod stream_waited;
 
 pub use caller::Caller;
-pub use calling_lines::CallingLines;
 pub use entry::{Entry, entry_line};
 pub use fault::OpenFault;
 pub use laws::{lines_come_in_any_pieces, lines_come_one_by_one};
-pub use lines::{AwaitedEquipment, Lines};
+pub use lines::Lines;
 pub use log::OutsideCall;
 pub use machine::Machine;
 pub use memory::MemoryOutside;
@@ -45,4 +44,3 @@ pub use stream_waited::WaitedStream;
 
 // What crates above need of the crates below.
 pub use network_watch::NetworkWatch;
-pub use node_drive;

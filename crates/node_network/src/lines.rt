@@ -1,17 +1,18 @@
 //! The lines of a node.
 
-ghost use Rattle.std.specs.Prelude.{◌≡◌, Err, IfErr, IfOk, IfSome, MatchResult, Ok, OnOk, false, true};
+ghost use Rattle.std.specs.Prelude.{◌≡◌, Err, IfErr, IfOk, MatchResult, Ok, false};
 ghost use Rattle.node_drive.specs.declared.outside.NextLine.TheVariants.{Closed};
 ghost use Rattle.node_network.specs.Lines.{unless_closed};
-ghost use Rattle.node_network.specs.Listeners.{IsForNobody, began, first_lines, is_field, is_lost};
+ghost use Rattle.node_network.specs.Listeners.{IsForNobody, began, first_lines, is_field};
 ghost use Rattle.node_network.specs.declared.fault.OpenFault.TheVariants.{NoListener};
 ghost use Rattle.node_network.specs.declared.lines.Kind.TheVariants.{Field, Operator};
+ghost use Rattle.node_network.specs.declared.stream_lines.StreamLines.{StreamLines};
 
 use crate::connection_lines::ConnectionLines;
 use crate::fault::OpenFault;
 use crate::line_input::LineInput;
 use crate::line_output::write_line;
-use crate::other_end::{connect, next_line, write_line_to};
+use crate::other_end::{next_line, write_line_to};
 use crate::stream_lines::{OperatorLines, StreamLines};
 use node_drive::{BrokenOff, NextLine};
 use std::alloc::{AllocError, Global};
@@ -34,46 +35,8 @@ impl<R: Net, I: Drop, O: Drop> Drop for Lines<R, I, O> {
 #[derive(Drop)]
 pub(crate) enum Kind<R: Net, I, O> {
     Field(StreamLines<I, O>),
-    Equipment(Option<LineInput<R::Stream>>),
     Operator(OperatorLines<I, O>),
     Connection(ConnectionLines<R>),
-}
-
-/// Where the field equipment of a controller is awaited.
-#[derive(Drop)]
-pub struct AwaitedEquipment<R: Net> {
-    listener: R::Listener,
-}
-
-impl<R: Net> AwaitedEquipment<R> {
-    /// It is awaited at an address.
-    pub fn at(net: &R, address: SocketAddr) -> Result<AwaitedEquipment<R>, OpenFault>
-        ensures { IfErr result (λ fault. fault ≡ NoListener) }
-    {
-        let Ok(listener) = net.bind(address) else {
-            return Err(OpenFault::NoListener);
-        };
-        let Ok(()) = listener.set_nonblocking(true) else {
-            return Err(OpenFault::NoListener);
-        };
-        Ok(AwaitedEquipment { listener })
-    }
-
-    /// Its lines, once it is there. Nobody else is let in then. Where its connection is lost, so are its lines.
-    pub fn lines<I: Read, O: Write>(&self) -> Option<Lines<R, I, O>>
-        ensures { IfSome result (λ lines. is_field lines.kind ≡ true) }
-    {
-        let Ok((stream, _)) = self.listener.accept() else {
-            return None;
-        };
-        let mut equipment = None;
-        if !connect(&mut equipment, stream) {
-            return None;
-        }
-        Some(Lines {
-            kind: Kind::Equipment(equipment),
-        })
-    }
 }
 
 impl<R: Net, I: Read, O: Write> Lines<R, I, O> {
@@ -125,14 +88,14 @@ impl<R: Net, I: Read, O: Write> Lines<R, I, O> {
     pub(crate) fn are_of_field(&self) -> bool
         ensures { result ≡ is_field self.now.kind }
     {
-        matches!(&self.kind, Kind::Field(_) | Kind::Equipment(_))
+        matches!(&self.kind, Kind::Field(_))
     }
 
     pub(crate) fn has_listener(&mut self) -> bool
         ensures { result ≡ began self.old.kind self.new.kind }
     {
         match &mut self.kind {
-            Kind::Field(_) | Kind::Equipment(_) => false,
+            Kind::Field(_) => false,
             Kind::Operator(lines) => lines.has_listener(),
             Kind::Connection(lines) => lines.has_listener(),
         }
@@ -140,23 +103,18 @@ impl<R: Net, I: Read, O: Write> Lines<R, I, O> {
 
     /// The next line, if there is one. An operator who has gone says nothing.
     pub(crate) fn next_line(&mut self, alloc: Global) -> Result<NextLine, AllocError>
-        ensures field { IfOk result (λ answer. answer ≡ Closed → is_field self.old.kind ≡ true) }
-        ensures lost { is_lost self.old.kind ≡ true → result ≡ Ok Closed }
+        ensures field { IfOk result (λ answer. answer ≡ Closed → (lines : StreamLines I O) × (self.old.kind ≡ Field lines)) }
     {
         match &mut self.kind {
             Kind::Field(lines) => lines.input.next_line(alloc),
-            Kind::Equipment(lines) => next_line(lines, alloc),
             Kind::Operator(lines) => unless_closed(lines.streams.input.next_line(alloc)),
             Kind::Connection(lines) => unless_closed(next_line(&mut lines.operator, alloc)),
         }
     }
 
-    pub(crate) fn write_line(&mut self, alloc: Global, text: &str) -> Result<(), BrokenOff>
-        ensures { OnOk result (is_lost self.old.kind ≡ false) }
-    {
+    pub(crate) fn write_line(&mut self, alloc: Global, text: &str) -> Result<(), BrokenOff> {
         match &mut self.kind {
             Kind::Field(lines) => write_line(alloc, &mut lines.output, text),
-            Kind::Equipment(lines) => write_line_to(lines, alloc, text),
             Kind::Operator(lines) => write_line(alloc, &mut lines.streams.output, text),
             Kind::Connection(lines) => {
                 // Where it can't be written, nobody is there any more.

@@ -4,6 +4,7 @@ pub mod Meaning
 pub mod Host
 pub mod Object
 pub mod Step
+pub mod Strict
 pub mod Stepped
 pub mod Hosted
 pub mod Made

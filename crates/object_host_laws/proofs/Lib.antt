@@ -1,4 +1,5 @@
 pub mod OutsideEnds
+pub mod BehindHosts
 pub mod Server
 pub mod Acted
 pub mod Told

@@ -1,3 +1,4 @@
 pub mod Lists
 pub mod Looks
 pub mod Steps
+pub mod ClearLooks

@@ -1,2 +1,3 @@
 pub mod Passage
 pub mod Approach
+pub mod Reports

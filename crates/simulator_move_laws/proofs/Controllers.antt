@@ -1,4 +1,5 @@
 pub mod Lists
+pub mod Behind
 pub mod Places
 pub mod Lamps
 pub mod Turns

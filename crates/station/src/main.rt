@@ -12,7 +12,6 @@ mod draw_command;
 mod drawn_file;
 mod line_command;
 mod railway_command;
-mod railway_node;
 mod text_judge;
 
 use draw_command::draw_file;
@@ -24,7 +23,6 @@ use node_record::{
     chart_node_text, decode_node_text, ends_text,
 };
 use railway_command::check_railway;
-use railway_node::node_of_railway;
 use station_command::{
     Approach, CaptureArguments, ChartArguments, CheckArguments, DatagramArguments, DrawArguments,
     Error, Failure, NodeArguments, PanelArguments, PlanArguments, Request, RoutesArguments,
@@ -515,39 +513,21 @@ fn capture_node(rt: &HostRuntime, asked: &CaptureOptions<'_>, name: &str, ends: 
 }
 
 /// How many milliseconds a line may wait until it can be written.
-pub(crate) const PATIENCE: u16 = 50;
+const PATIENCE: u16 = 50;
 
-/// `node FILE NAME --addresses ADDRESSES [--operator ADDRESS] [--equipment ADDRESS] [--record R] [--record-size N]
-/// [--closings FILE [--keep-locks]] [--state FILE --lock ADDRESS --clear ADDRESS] [--clock MS] [--hold MS] [--for MS] [--stop-file F]`.
-/// The file has a layout or a railway. The lines of the node go over standard input and output.
+/// `node FILE NAME --addresses ADDRESSES [--operator ADDRESS] [--record R] [--record-size N] [--closings FILE [--keep-locks]]
+/// [--clock MS] [--hold MS] [--for MS] [--stop-file F]`. The lines of the node go over standard input and output.
 fn node(rt: &HostRuntime, arguments: NodeArguments<'_>) -> Result<u8, Failure> {
-    let (text, addresses) = texts_of(rt, arguments.layout, arguments.addresses)?;
-    let (text, addresses) = (text.as_str(), addresses.as_str());
-    match is_railway(rt.alloc(), text) {
-        Ok(true) => node_of_railway(rt, arguments, text, addresses),
-        Ok(false) => node_of_station(rt, arguments, text, arguments.name, addresses),
-        Err(_) => Err(Failure::OutOfMemory),
-    }
-}
-
-/// A node of a station, by the text of its layout and its name.
-pub(crate) fn node_of_station(
-    rt: &HostRuntime,
-    arguments: NodeArguments<'_>,
-    layout: &str,
-    name: &str,
-    addresses: &str,
-) -> Result<u8, Failure> {
+    let (layout, addresses) = texts_of(rt, arguments.layout, arguments.addresses)?;
     let files = RunFiles {
         record_size: arguments.record_size,
         stop_file: arguments.stop_file,
     };
     let asked = NodeOptions {
-        layout,
-        name,
-        addresses,
+        layout: layout.as_str(),
+        name: arguments.name,
+        addresses: addresses.as_str(),
         operator: arguments.operator,
-        equipment: arguments.equipment,
         record: arguments.record,
         closings: arguments.closings,
         keep_locks: arguments.keep_locks,

@@ -12,6 +12,4 @@ pub use failure::{Failure, tell};
 pub use table::table_of;
 
 // What crates above need of the crates below.
-pub use node_addresses::{
-    AddressesFault, Network, Networks, read_addresses, read_networks, read_networks_of,
-};
+pub use node_addresses::{AddressesFault, Network, Networks, read_addresses, read_networks};

@@ -98,8 +98,8 @@ commands =
     ∷ command (codes "chart") (layout ∷ second ∷ node ∷ may moment (codes "from") ∷ may moment (codes "to") ∷ [])
     ∷ record (command (codes "decode") (may Word (codes "hex") ∷ may Word (codes "layout") ∷ may File (codes "FILE") ∷ may File (codes "SECOND") ∷ node ∷ [])) { asks = asks_to_decode }
     ∷ command (codes "capture") (layout ∷ second ∷ must File (codes "OUT") ∷ may Word (codes "addresses") ∷ node ∷ may Switch (codes "force") ∷ [])
-    ∷ command (codes "node") (layout ∷ must File (codes "NAME") ∷ must Word (codes "addresses") ∷ may Word (codes "operator") ∷ may Word (codes "equipment") ∷ may Word (codes "record") ∷ record_size
-    ∷ may Word (codes "closings") ∷ may Switch (codes "keep-locks") ∷ may Word (codes "state") ∷ may Word (codes "lock") ∷ may Word (codes "clear") ∷ may (Number 0 9000000000000) (codes "clock") ∷ may (Number 0 80) (codes "hold")
+    ∷ command (codes "node") (layout ∷ must File (codes "NAME") ∷ must Word (codes "addresses") ∷ may Word (codes "operator") ∷ may Word (codes "record") ∷ record_size
+    ∷ may Word (codes "closings") ∷ may Switch (codes "keep-locks") ∷ may (Number 0 9000000000000) (codes "clock") ∷ may (Number 0 80) (codes "hold")
     ∷ may time (codes "for") ∷ stop_file ∷ [])
     ∷ record (command (codes "line") (must File (codes "ACTION") ∷ layout ∷ must File (codes "NAME") ∷ may Switch (codes "again") ∷ [])) { asks = asks_for_line }
     ∷ []

@@ -48,9 +48,8 @@ says (requests.Capture o) = (
 )
 says (requests.Node o) = (
   codes "node",
-  one o.layout.now ∷ one o.name.now ∷ one o.addresses.now ∷ Worded (option_copied o.operator) ∷ Worded (option_copied o.equipment) ∷ Worded (option_copied o.record)
-      ∷ Counted o.record_size ∷ Worded (option_copied o.closings) ∷ Switched o.keep_locks
-      ∷ Worded (option_copied o.state) ∷ Worded (option_copied o.lock) ∷ Worded (option_copied o.clear) ∷ Counted o.clock ∷ Counted o.hold ∷ Counted o.for_ms
+  one o.layout.now ∷ one o.name.now ∷ one o.addresses.now ∷ Worded (option_copied o.operator) ∷ Worded (option_copied o.record)
+      ∷ Counted o.record_size ∷ Worded (option_copied o.closings) ∷ Switched o.keep_locks ∷ Counted o.clock ∷ Counted o.hold ∷ Counted o.for_ms
       ∷ Worded (option_copied o.stop_file) ∷ [],
 )
 says (requests.BeginLine o) = (codes "line", one (codes "begin") ∷ one o.railway.now ∷ one o.line.now ∷ Switched o.again ∷ [])

@@ -12,10 +12,10 @@ ghost use Rattle.station_command.specs.inside.Matches.{asked_of_rows, value_in};
 ghost use Rattle.clap.specs.declared.error.kind.ErrorKind.TheVariants as kind;
 
 use crate::command_table::{
-    ACTION, ADDRESSES, AGAIN, APPROACH, CAPTURE, CHART, CHECK, CLEAR, CLOCK, CLOSINGS, COMPLETE,
-    CSV, DECODE, DIGEST, DRAW, EQUIPMENT, EXPLAIN, FILE, FOR, FORCE, FROM, HEX, HOLD, KEEP_LOCKS,
-    LAYOUT, LINE, LOCK, NAME, NODE, OPERATOR, OUT, PANEL, PICTURE, PLAN, PORT, RECORD, RECORD_SIZE,
-    REPLAY, ROUTE, ROUTES, RUN, SCRIPT, SECOND, SIM, STATE, STOP_FILE, TABLE, TO, WRITE,
+    ACTION, ADDRESSES, AGAIN, APPROACH, CAPTURE, CHART, CHECK, CLOCK, CLOSINGS, COMPLETE, CSV,
+    DECODE, DIGEST, DRAW, EXPLAIN, FILE, FOR, FORCE, FROM, HEX, HOLD, KEEP_LOCKS, LAYOUT, LINE,
+    NAME, NODE, OPERATOR, OUT, PANEL, PICTURE, PLAN, PORT, RECORD, RECORD_SIZE, REPLAY, ROUTE,
+    ROUTES, RUN, SCRIPT, SECOND, SIM, STOP_FILE, TABLE, TO, WRITE,
 };
 use crate::line::station;
 use crate::request::{
@@ -268,14 +268,10 @@ fn node<'a>(matches: &ArgMatches<'a>) -> Option<Request<'a>>
         name: word(matches, NAME)?,
         addresses: word(matches, ADDRESSES)?,
         operator: word(matches, OPERATOR),
-        equipment: word(matches, EQUIPMENT),
         record: word(matches, RECORD),
         record_size: number_given(matches, RECORD_SIZE),
         closings: word(matches, CLOSINGS),
         keep_locks: is_on(matches, KEEP_LOCKS),
-        state: word(matches, STATE),
-        lock: word(matches, LOCK),
-        clear: word(matches, CLEAR),
         clock: number_given(matches, CLOCK),
         hold: number_given(matches, HOLD),
         for_ms: number_given(matches, FOR),

@@ -92,20 +92,10 @@ pub(crate) const ADDRESSES: &str = "addresses";
 
 pub(crate) const OPERATOR: &str = "operator";
 
-/// Where a controller awaits its field equipment.
-pub(crate) const EQUIPMENT: &str = "equipment";
-
 /// The file of what is closed, and the switch by which it has what is locked too.
 pub(crate) const CLOSINGS: &str = "closings";
 
 pub(crate) const KEEP_LOCKS: &str = "keep-locks";
-
-/// The file of an end of a line, and where the two nodes are reached whose equipment it is.
-pub(crate) const STATE: &str = "state";
-
-pub(crate) const LOCK: &str = "lock";
-
-pub(crate) const CLEAR: &str = "clear";
 
 pub(crate) const CLOCK: &str = "clock";
 
@@ -342,9 +332,8 @@ pub(crate) const COMMANDS: &[Entry] = &[
             Argument(FORCE, Kind::Switch, OPTIONAL, Help::Force),
         ],
     },
-    // `node FILE NAME --addresses ADDRESSES [--operator ADDRESS] [--equipment ADDRESS] [--record R] [--record-size N]
-    // [--closings FILE [--keep-locks]] [--state FILE --lock ADDRESS --clear ADDRESS] [--clock MS] [--hold MS] [--for MS]
-    // [--stop-file F]`
+    // `node FILE NAME --addresses ADDRESSES [--operator ADDRESS] [--record R] [--record-size N] [--closings FILE [--keep-locks]]
+    // [--clock MS] [--hold MS] [--for MS] [--stop-file F]`
     Entry {
         word: NODE,
         help: CommandHelp::Node,
@@ -353,7 +342,6 @@ pub(crate) const COMMANDS: &[Entry] = &[
             Argument(NAME, Kind::File("NAME"), NEEDED, Help::Name),
             Argument(ADDRESSES, Kind::Word("ADDRESSES"), NEEDED, Help::Addresses),
             Argument(OPERATOR, Kind::Word("ADDRESS"), OPTIONAL, Help::Operator),
-            Argument(EQUIPMENT, Kind::Word("ADDRESS"), OPTIONAL, Help::Equipment),
             Argument(RECORD, Kind::Word("R"), OPTIONAL, Help::RecordOfNode),
             Argument(
                 RECORD_SIZE,
@@ -363,9 +351,6 @@ pub(crate) const COMMANDS: &[Entry] = &[
             ),
             Argument(CLOSINGS, Kind::Word("FILE"), OPTIONAL, Help::Closings),
             Argument(KEEP_LOCKS, Kind::Switch, OPTIONAL, Help::KeepLocks),
-            Argument(STATE, Kind::Word("FILE"), OPTIONAL, Help::State),
-            Argument(LOCK, Kind::Word("ADDRESS"), OPTIONAL, Help::Lock),
-            Argument(CLEAR, Kind::Word("ADDRESS"), OPTIONAL, Help::Clear),
             Argument(
                 CLOCK,
                 Kind::Number("MS", 0, LATEST_CLOCK),

@@ -34,10 +34,8 @@ pub enum Request<'a> {
     DecodeSession(SessionArguments<'a>),
     /// `capture FILE RECORD OUT [--addresses ADDRESSES] [--node NAME] [--force]`: the same datagrams as a capture in a third file.
     Capture(CaptureArguments<'a>),
-    /// `node FILE NAME --addresses ADDRESSES [--operator ADDRESS] [--equipment ADDRESS] [--record R] [--record-size N]
-    /// [--closings FILE [--keep-locks]] [--state FILE --lock ADDRESS --clear ADDRESS] [--clock MS] [--hold MS] [--for MS]
-    /// [--stop-file F]`: one node of a station of the layout in a file, or one node or one end of a line of the railway in a file,
-    /// as a process of its own.
+    /// `node FILE NAME --addresses ADDRESSES [--operator ADDRESS] [--record R] [--record-size N] [--closings FILE [--keep-locks]]
+    /// [--clock MS] [--hold MS] [--for MS] [--stop-file F]`: one node of a station of the layout in a file, as a process of its own.
     Node(NodeArguments<'a>),
     /// `line begin FILE NAME [--again]`: the files with which a line of the railway in a file begins.
     BeginLine(BeginLineArguments<'a>),
@@ -163,26 +161,20 @@ pub struct CaptureArguments<'a> {
     pub force: bool,
 }
 
-/// The file of a layout or a railway, the name of the node, the file with the addresses of the nodes, the address for the operator and
-/// that for the field equipment, where it isn't standard input and output, the file to which what came and what was done is written,
-/// how many bytes a part of it has, where it stands in parts, the file in which what is closed is kept, and whether what routes lock is
-/// kept there too, the file of an end of a line with the addresses of the two nodes whose equipment it is, where the clock begins, how
-/// long a datagram waits for those before it, for how many milliseconds the node runs, where it isn't until it is ended, and the file
-/// that ends it.
+/// The file of a layout, the name of the node, the file with the addresses of the nodes, the address for the operator, where it
+/// isn't standard input and output, the file to which what came and what was done is written, how many bytes a part of it has, where
+/// it stands in parts, the file in which what is closed is kept, and whether what routes lock is kept there too, where the clock begins, how long a datagram waits for those before it, for how many milliseconds the node runs,
+/// where it isn't until it is ended, and the file that ends it.
 #[derive(Clone, Copy)]
 pub struct NodeArguments<'a> {
     pub layout: &'a str,
     pub name: &'a str,
     pub addresses: &'a str,
     pub operator: Option<&'a str>,
-    pub equipment: Option<&'a str>,
     pub record: Option<&'a str>,
     pub record_size: Option<u64>,
     pub closings: Option<&'a str>,
     pub keep_locks: bool,
-    pub state: Option<&'a str>,
-    pub lock: Option<&'a str>,
-    pub clear: Option<&'a str>,
     pub clock: Option<u64>,
     pub hold: Option<u64>,
     pub for_ms: Option<u64>,

@@ -103,10 +103,6 @@ pub(crate) enum Help {
     RecordOfNode,
     Closings,
     KeepLocks,
-    Equipment,
-    State,
-    Lock,
-    Clear,
     Clock,
     Hold,
     ForOfNode,
@@ -156,10 +152,6 @@ impl Help {
             Help::RecordOfNode => RECORD_OF_NODE,
             Help::Closings => CLOSINGS,
             Help::KeepLocks => KEEP_LOCKS,
-            Help::Equipment => EQUIPMENT,
-            Help::State => STATE,
-            Help::Lock => LOCK,
-            Help::Clear => CLEAR,
             Help::Clock => CLOCK,
             Help::Hold => HOLD,
             Help::ForOfNode => FOR_OF_NODE,
@@ -469,16 +461,6 @@ const CLOSINGS: &str = "The file in which what is closed outlives the interlocki
 const KEEP_LOCKS: &str =
     "What set routes lock is kept in the file too, and closed in the next process";
 
-const EQUIPMENT: &str =
-    "The loopback address at which a controller awaits its field equipment, in place of standard input and output";
-
-const STATE: &str = "The file of an end of a line, with its token and its lock";
-
-const LOCK: &str = "The loopback address at which the lock of that end awaits its equipment";
-
-const CLEAR: &str =
-    "The loopback address at which the detector awaits its equipment that tells whether the line is clear";
-
 const CLOCK: &str =
     "Where the node's clock begins, from 0 to 9000000000000 milliseconds, else at 0";
 
@@ -513,8 +495,7 @@ It is told by the field equipment, in lines on standard input:
   occupy S, clear S           what the contact of a section tells a detector
   reach left|right|none       where the point lies, with none for neither
 
-A controller waits until its first line is done and each contact has told its state. With --equipment it
-waits at that address until its equipment connects, and its lines go over the connection.
+A controller waits until its first line is done and each contact has told its state.
 
 The interlocking serves an operator, in lines on standard input and output, or at --operator:
 
@@ -545,12 +526,6 @@ It answers `accepted`, or `refused N` with the cause, and tells what it knows wh
 With --closings what is closed is in FILE before `accepted` is told, and the next process closes it
 before it hears anything. It answers `not kept X` where FILE can't be written. Where FILE can't be read
 whole, or is of another layout, every section and every point is closed, and `closings lost` tells why.
-
-Where FILE is a railway's, NAME is that of a station and of a node of it, as A.S1, or that of a line and of
-a station, as L.A: then it is that end of the line. An end takes --state, --lock and --clear. It hears, in
-lines on standard input, what the contacts of its part tell, `ask` and `unask`, and tells `token here|away`,
-`token asked|unasked`, `line clear|occupied` and `partner up|lost`. ADDRESSES has a line for each of the two
-stations of the line.
 
 With --stop-file it ends where that file is there, as it does after --for: what it drives is told to rest.
 With --record-size its record stands in parts, as for run.

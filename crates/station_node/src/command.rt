@@ -12,10 +12,10 @@ use crate::with_file::WithFile;
 use node_kinds::node_drive::node_lines::AuxiliaryCounts;
 use node_kinds::node_drive::{NodeFault, Outside};
 use node_kinds::simulator_spec::{Checked, Layout, NodeId};
-use node_kinds::{Keeping, ROUND_MICROS, node_named};
+use node_kinds::{Keeping, node_named};
 use node_network::{
-    AwaitedEquipment, LONGEST_HOLD, Lines, Machine, NetworkWatch, NetworksSeen, NodeClock,
-    NodeSocket, OpenFault, Recorded,
+    LONGEST_HOLD, Lines, Machine, NetworkWatch, NetworksSeen, NodeClock, NodeSocket, OpenFault,
+    Recorded,
 };
 use run_files::{RecordFile, RunFiles, StopFile, record_file};
 use station_check::{Networks, read_networks, table_of, tell};
@@ -24,7 +24,7 @@ use std::fs::Files;
 use std::io::{self, Eprint, Read, Write};
 use std::net::{Net, SocketAddr};
 use std::random::RandomSource;
-use std::time::{Clock as Timer, Duration};
+use std::time::Clock as Timer;
 use whole_file::DiskPlace;
 
 /// What `station node` is asked.
@@ -38,8 +38,6 @@ pub struct NodeOptions<'a> {
     pub addresses: &'a str,
     /// The address at which the interlocking's operator is served, if not over the lines of the process.
     pub operator: Option<&'a str>,
-    /// The address at which a controller awaits its field equipment, if that doesn't speak over the lines of the process.
-    pub equipment: Option<&'a str>,
     /// The path of the record, if there is to be one.
     pub record: Option<&'a str>,
     /// The path of the file in which the closings of the interlocking are kept, if they are.
@@ -97,10 +95,8 @@ fn begin<
 ) -> Result<(), NodeFailure> {
     let own = own_of(rt, table.layout(), asked)?;
     may_keep(asked, own.node)?;
-    match lines_of(rt, asked, own.node, input, output)? {
-        Some(lines) => run_own(rt, asked, table, &own, lines, complaints),
-        None => Ok(()),
-    }
+    let lines = lines_of(rt, asked.operator, own.node, input, output)?;
+    run_own(rt, asked, table, &own, lines, complaints)
 }
 
 /// Whether a process may keep what it is to keep.
@@ -359,59 +355,19 @@ fn write_head<W: Write>(
     }
 }
 
-/// The lines of a node: those of its field equipment, which may have to come over a connection first, or of the operator, who may come
-/// and go over one. There are none where the process ended before the equipment came.
-fn lines_of<R: Files + Net + Timer, I: Read + Drop, O: Write + Drop>(
+/// The lines of a node: those of its field equipment, or of the operator, who may come and go over a connection.
+fn lines_of<R: Net, I: Read + Drop, O: Write + Drop>(
     rt: &R,
-    asked: &NodeOptions<'_>,
+    operator: Option<&str>,
     node: NodeId,
     input: I,
     output: O,
-) -> Result<Option<Lines<R, I, O>>, NodeFailure> {
-    match (asked.operator, asked.equipment) {
-        (None, Some(text)) => equipped_at(rt, asked, text, node),
-        (Some(_), Some(_)) => Err(NodeFailure::Equipment),
-        (Some(text), None) => Ok(Some(served_at(rt, text, node)?)),
-        (None, None) if node.0 == 0 => Ok(Some(Lines::of_operator(input, output))),
-        (None, None) => Ok(Some(Lines::of_field(input, output))),
+) -> Result<Lines<R, I, O>, NodeFailure> {
+    match operator {
+        Some(text) => served_at(rt, text, node),
+        None if node.0 == 0 => Ok(Lines::of_operator(input, output)),
+        None => Ok(Lines::of_field(input, output)),
     }
-}
-
-/// The lines of the field equipment of a controller, which is awaited at an address of the loopback interface.
-fn equipped_at<R: Files + Net + Timer, I: Read + Drop, O: Write + Drop>(
-    rt: &R,
-    asked: &NodeOptions<'_>,
-    text: &str,
-    node: NodeId,
-) -> Result<Option<Lines<R, I, O>>, NodeFailure> {
-    match text.parse::<SocketAddr>() {
-        Ok(address) if node.0 != 0 && address.ip().is_loopback() => {
-            match AwaitedEquipment::at(rt, address) {
-                Ok(equipment) => Ok(awaited(rt, asked.files.stop_file, &equipment)),
-                Err(fault) => Err(NodeFailure::Open(fault)),
-            }
-        }
-        _ => Err(NodeFailure::Equipment),
-    }
-}
-
-/// Waits for the field equipment of a controller, or until the file is there that ends the process.
-fn awaited<R: Files + Net + Timer, I: Read + Drop, O: Write + Drop>(
-    rt: &R,
-    stop_file: Option<&str>,
-    equipment: &AwaitedEquipment<R>,
-) -> Option<Lines<R, I, O>> {
-    let stop = StopFile::new(rt, stop_file);
-    for _ in 0..u64::MAX {
-        if let Some(lines) = equipment.lines() {
-            return Some(lines);
-        }
-        if stop.is_there() {
-            return None;
-        }
-        rt.sleep(Duration::from_micros(ROUND_MICROS));
-    }
-    None
 }
 
 /// The lines of the operator of the interlocking, who is served at an address of the loopback interface.

@@ -14,8 +14,6 @@ pub(crate) enum NodeFailure {
     Addresses(AddressesFault),
     /// The operator can't be served at the address, or not by this node.
     Operator,
-    /// The field equipment can't be awaited at the address, or not by this node.
-    Equipment,
     NoRandom,
     NoRecord,
     /// Closings are kept of the interlocking alone.
@@ -35,9 +33,6 @@ impl fmt::Display for NodeFailure {
             NodeFailure::Addresses(fault) => return fault.fmt(f),
             NodeFailure::Operator => {
                 "the operator's address has to be one of the loopback interface, and the node the interlocking"
-            }
-            NodeFailure::Equipment => {
-                "the equipment's address has to be one of the loopback interface, and the node a controller"
             }
             NodeFailure::NoRandom => "the system gives no random number",
             NodeFailure::NoRecord => "the record can't be made",

@@ -30,5 +30,4 @@ pub use with_file::WithFile;
 // What crates above need of the crates below.
 pub use closings_file;
 pub use node_network;
-pub use station_check::{Networks, read_networks_of};
 pub use whole_file;

@@ -416,14 +416,10 @@ Arguments:
 Options:
       --addresses <ADDRESSES>  The addresses of the nodes, a TOML file
       --operator <ADDRESS>     The loopback address of the operator, in place of standard input and output
-      --equipment <ADDRESS>    The loopback address at which a controller awaits its field equipment, in place of standard input and output
       --record <R>             The file to which what came and what was done is written
       --record-size <N>        How many bytes a part of the record has, from 4096 to 4294967296, else it stands in one file
       --closings <FILE>        The file in which what is closed outlives the interlocking's process
       --keep-locks             What set routes lock is kept in the file too, and closed in the next process
-      --state <FILE>           The file of an end of a line, with its token and its lock
-      --lock <ADDRESS>         The loopback address at which the lock of that end awaits its equipment
-      --clear <ADDRESS>        The loopback address at which the detector awaits its equipment that tells whether the line is clear
       --clock <MS>             Where the node's clock begins, from 0 to 9000000000000 milliseconds, else at 0
       --hold <MS>              How long a datagram waits for those that were sent before it, from 0 to 80 milliseconds, else 60
       --for <MS>               How long the node runs, from 1000 to 600000 milliseconds, else without end

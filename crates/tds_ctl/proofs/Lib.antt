@@ -1,3 +1,4 @@
 pub mod Places
 pub mod Owed
 pub mod Told
+pub mod StrictDetectors

@@ -1,4 +1,5 @@
 pub mod Sections
 pub mod Controlled
 pub mod History
+pub mod NothingOwed
 pub mod inside

@@ -23,3 +23,10 @@ pub mod AspectCalls
 pub mod DueShapes
 pub mod DueTests
 pub mod SectionsEvents
+pub mod ShutLinks
+pub mod FoundHosts
+pub mod FoundClients
+pub mod FoundIxl
+pub mod GoneClients
+pub mod DownLinks
+pub mod CaughtUpHosts

@@ -9,3 +9,4 @@ pub mod ProceedsHearing
 pub mod ProceedsGiven
 pub mod ProceedsRounds
 pub mod ProceedsStays
+pub mod LeftSignals

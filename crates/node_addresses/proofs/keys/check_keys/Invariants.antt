@@ -8,4 +8,4 @@ abbrev pub invariant-loop-key : goal.invariant-loop-key
 invariant-loop-key l =
     (goal.iterator-loop-key).can_next l.key-iterator ×
     (goal.iterator-loop-key).is_finite l.key-iterator ×
-    (unknown_key l.names (members_view l.key-iterator) ≡ unknown_key l.names (table_view l.document))
+    (unknown_key l.layout (members_view l.key-iterator) ≡ unknown_key l.layout (table_view l.document))

@@ -24,16 +24,16 @@ returns-in_err-first-2-clause-fault c =
 
 pub returns-in_err-second-clause-fault : goal.returns-in_err-second-clause-fault
 returns-in_err-second-clause-fault c =
-    let names = c.args.names.now in
+    let site = c.args.layout.now in
     let document = table_view c.args.document.now in
     let fault = c.in_err-second.field-0.0 in
     let p = err_from_is_err_and c.from_residual-in_err-second.result c.from_residual-in_err-second.ensures.1 in
     rw (p.1, p.2)
     (unless_memory fault
-    (λ stops. stops_in_second (sym c.has_two.ensures ∙ c.if-not-has_two.false) c.in_ok-first-2.ensures.found (subst (λ (xs : List SocketAddr). StopsIn Second xs names document fault) c.deref.ensures.value stops))
+    (λ stops. stops_in_second (sym c.has_two.ensures ∙ c.if-not-has_two.false) c.in_ok-first-2.ensures.found (subst (λ (xs : List SocketAddr). StopsIn Second xs site document fault) c.deref.ensures.value stops))
     c.in_err-second.ensures.fault)
 
 pub returns-clause-found : goal.returns-clause-found
 returns-clause-found c =
     two (sym c.has_two.ensures ∙ c.if-not-has_two.false) c.in_ok-first-2.ensures.found
-    (subst (λ (xs : List SocketAddr). AreIn Second xs c.args.names.now (table_view c.args.document.now) c.in_ok-second.second.items) c.deref.ensures.value c.in_ok-second.ensures.found)
+    (subst (λ (xs : List SocketAddr). AreIn Second xs c.args.layout.now (table_view c.args.document.now) c.in_ok-second.second.items) c.deref.ensures.value c.in_ok-second.ensures.found)

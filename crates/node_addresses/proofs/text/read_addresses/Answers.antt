@@ -6,20 +6,20 @@ use Rattle.node_addresses.proofs.text.read_addresses.Goals as goal
 pub returns-in_err-document-clause-fault : goal.returns-in_err-document-clause-fault
 returns-in_err-document-clause-fault c =
     let p = err_from_is_err_and c.from_residual.result c.from_residual.ensures.1 in
-    rw (p.1, p.2) (document_fault c.args.names.now c.args.text.now c.in_err-document.field-0.0 c.in_err-document.ensures.fault)
+    rw (p.1, p.2) (document_fault c.args.layout.now c.args.text.now c.in_err-document.field-0.0 c.in_err-document.ensures.fault)
 
 pub returns-in_err-addresses-clause-fault : goal.returns-in_err-addresses-clause-fault
 returns-in_err-addresses-clause-fault c =
     let p = err_from_is_err_and c.from_residual-in_err-addresses.result c.from_residual-in_err-addresses.ensures.1 in
-    rw (p.1, p.2) (node_fault c.args.names.now c.args.text.now (table_view c.in_ok-document.document) c.in_err-addresses.field-0.0 c.in_ok-document.ensures.read c.in_err-addresses.ensures.fault)
+    rw (p.1, p.2) (node_fault c.args.layout.now c.args.text.now (table_view c.in_ok-document.document) c.in_err-addresses.field-0.0 c.in_ok-document.ensures.read c.in_err-addresses.ensures.fault)
 
 pub returns-in_err-addresses-clause-only : goal.returns-in_err-addresses-clause-only
 returns-in_err-addresses-clause-only c =
     let p = err_from_is_err_and c.from_residual-in_err-addresses.result c.from_residual-in_err-addresses.ensures.1 in
-    rw (p.1, p.2) (only_where_none c.args.names.now c.args.text.now c.in_err-addresses.field-0.0
-    (node_fault c.args.names.now c.args.text.now (table_view c.in_ok-document.document) c.in_err-addresses.field-0.0 c.in_ok-document.ensures.read c.in_err-addresses.ensures.fault))
+    rw (p.1, p.2) (only_where_none c.args.layout.now c.args.text.now c.in_err-addresses.field-0.0
+    (node_fault c.args.layout.now c.args.text.now (table_view c.in_ok-document.document) c.in_err-addresses.field-0.0 c.in_ok-document.ensures.read c.in_err-addresses.ensures.fault))
 
 pub returns-in_err-check_keys-clause-fault : goal.returns-in_err-check_keys-clause-fault
 returns-in_err-check_keys-clause-fault c =
     let p = err_from_is_err_and c.from_residual-in_err-check_keys.result c.from_residual-in_err-check_keys.ensures.1 in
-    rw (p.1, p.2) (key_fault c.args.names.now c.args.text.now (table_view c.in_ok-document.document) c.in_ok-addresses.addresses.items c.in_err-check_keys.field-0.0 c.in_ok-document.ensures.read c.in_ok-addresses.ensures.found c.in_err-check_keys.ensures.unknown)
+    rw (p.1, p.2) (key_fault c.args.layout.now c.args.text.now (table_view c.in_ok-document.document) c.in_ok-addresses.addresses.items c.in_err-check_keys.field-0.0 c.in_ok-document.ensures.read c.in_ok-addresses.ensures.found c.in_err-check_keys.ensures.unknown)

@@ -1,6 +1,5 @@
-use Rattle.std.proofs.Common.{Result, Ok, Err, ap}
+use Rattle.std.proofs.Common.{Result, Ok, Err}
 use Rattle.std.specs.Prelude.{IfOk}
-use Rattle.node_network.specs.Listeners.{is_field}
 use Rattle.node_network.proofs.lines.Lines.next_line.Goals as goal
 
 any_ok : {A E : Type 0} {P : A → Type 0} (result : Result A E) → ((x : A) → P x) → IfOk result P
@@ -8,5 +7,5 @@ any_ok (Ok x) f = f x
 any_ok (Err e) f = tt
 
 -- these are lines of field equipment
-pub returns-in-Field-clause-field : goal.returns-in-Field-clause-field
-returns-in-Field-clause-field g c = any_ok c.next_line.result (λ answer closed. ap is_field c.in-Field.is)
+pub returns-in-Field : goal.returns-in-Field
+returns-in-Field g c = record { field = any_ok c.next_line.result (λ answer closed. (c.in-Field.lines, c.in-Field.is)) }

@@ -1,6 +1,0 @@
-mod Texts
-mod OnDisk
-mod AtOnce
-mod HostBelow
-mod Steps
-mod Runs
