@@ -48,7 +48,7 @@ static const char layout[] = "section = [\"GA\", \"GB\"]\n"
                              "id = 1\n";
 
 static int run(void) {
-    static const struct zendurai_setup setup = {2, 1, {1, 2, 3, 4}, 1000, 2, 0};
+    static const struct zendurai_setup setup = {2, 1, {1, 2, 3, 4}, 1000, 2};
     static const uint8_t name[] = "S1", peer[] = "IXL1", sections[] = "\0\2GA\1\2GP";
     struct zendurai_signal signal = {rooms[0], 0};
     struct zendurai_point point = {rooms[1], 0};

@@ -126,7 +126,7 @@ static void answered(uint32_t answer, uint32_t wanted, const char *what) {
 static void steps(uint64_t now) { since = latest = now, in_force = kind == 2, stepped = 1; }
 
 static void starts(uint64_t now) {
-    static const struct zendurai_setup other = {11, 1, {0x67452301, 0xefcdab89, 0x98badcfe, 0x10325476}, 0, 2, 0};
+    static const struct zendurai_setup other = {11, 1, {0x67452301, 0xefcdab89, 0x98badcfe, 0x10325476}, 0, 2};
     struct zendurai_setup setup = other;
     const uint8_t *own = (const uint8_t *)"A", *peer = (const uint8_t *)"HALDEN", *all = (const uint8_t *)"\0\2GA\1\3G-2";
     setup.first_sequence_number = first_number;

@@ -149,7 +149,7 @@ static void after_step(int node) {
 
 static void start_controller(int node) {
     static uint32_t first = 1;
-    struct zendurai_setup setup = {ids[node], ids[IXL], {0x67452301, 0xefcdab89, 0x98badcfe, 0x10325476}, first += 100000, 1, 0};
+    struct zendurai_setup setup = {ids[node], ids[IXL], {0x67452301, 0xefcdab89, 0x98badcfe, 0x10325476}, first += 100000, 1};
     const uint8_t *own = bytes_of(names[node]), *peer = bytes_of(names[IXL]);
     uint8_t sections[] = "\0\2GA\0\2GP\0\2G1\0\2G2";
     uint64_t now = clock_of(node);

@@ -1,6 +1,6 @@
 /* Replays what a process of `station node` recorded through the library: each line of the record has to follow, in its place, from what came
    before it: the same orders, and the same datagrams, byte for byte. A record that ends early is a beginning.
-   usage: embed_replay signal|point|detector RECORD OWN PARTNER OWN-NAME PARTNER-NAME VERSION [SECTION ..], of a station without `trains`
+   usage: embed_replay signal|point|detector RECORD OWN PARTNER OWN-NAME PARTNER-NAME VERSION [SECTION ..]
           embed_replay interlocking RECORD LAYOUT */
 #include "zendurai.h"
 
@@ -217,7 +217,7 @@ static int hears_datagram(const char *hex, uint64_t now) {
 }
 
 static void starts(uint64_t now, char **words, uint32_t number) {
-    struct zendurai_setup setup = {(uint32_t)atoi(words[0]), (uint32_t)atoi(words[1]), {0x67452301, 0xefcdab89, 0x98badcfe, 0x10325476}, number, 1, 0};
+    struct zendurai_setup setup = {(uint32_t)atoi(words[0]), (uint32_t)atoi(words[1]), {0x67452301, 0xefcdab89, 0x98badcfe, 0x10325476}, number, 1};
     const uint8_t *own = (const uint8_t *)words[2], *peer = (const uint8_t *)words[3];
     size_t own_length = strlen(words[2]), peer_length = strlen(words[3]), size = 0;
     uint8_t all[16 * 22];

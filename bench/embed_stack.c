@@ -12,7 +12,7 @@ static const char *const names[CALLS] = {"start", "hear", "tick", "order", "next
 static _Alignas(16) uint8_t stack[256 * 1024], room[ZENDURAI_ROOM_BYTES];
 static ucontext_t here, there;
 static struct zendurai_signal sig = {room, 0};
-static struct zendurai_setup setup = {11, 1, {0x67452301, 0xefcdab89, 0x98badcfe, 0x10325476}, 0, 2, 0};
+static struct zendurai_setup setup = {11, 1, {0x67452301, 0xefcdab89, 0x98badcfe, 0x10325476}, 0, 2};
 static uint8_t datagram[512];
 static size_t length, most[CALLS];
 static uint64_t now;

@@ -91,7 +91,6 @@ struct zendurai_setup {
     uint32_t key[4];       /* the key of the network */
     uint32_t first_sequence_number; /* another one at each start, as a clock or a counter gives it */
     uint8_t version;       /* of the telegrams: 1, or 2 with the aspect slow */
-    uint8_t trains;        /* 1 where the layout has `trains = true`, as in every node of the station; else 0 */
 };
 
 struct zendurai_lamp {

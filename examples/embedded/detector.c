@@ -51,7 +51,7 @@ int main(int argc, char **argv) {
     open_networks(3, argv + 5);
     fcntl(0, F_SETFL, O_NONBLOCK);
     struct zendurai_setup setup = {(uint32_t)atoi(argv[2]), (uint32_t)atoi(argv[4]), {0x67452301, 0xefcdab89, 0x98badcfe, 0x10325476},
-                                   (uint32_t)time(NULL), 1, 0};
+                                   (uint32_t)time(NULL), 1};
     uint32_t answer = zendurai_detector_start(&detector, sizeof room, &setup, (const uint8_t *)argv[1], strlen(argv[1]),
                                               (const uint8_t *)argv[3], strlen(argv[3]), sections, size, clock_ms());
     if (answer) return fprintf(stderr, "no start: %u\n", (unsigned)answer), 1;

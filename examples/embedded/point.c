@@ -58,7 +58,7 @@ int main(int argc, char **argv) {
     for (uint32_t side = 0; begins && side < 3; side++) if (!strcmp(begins, sides[side])) lies = side;
     open_networks(argc - 5, argv + 5);
     struct zendurai_setup setup = {(uint32_t)atoi(argv[2]), (uint32_t)atoi(argv[4]), {0x67452301, 0xefcdab89, 0x98badcfe, 0x10325476},
-                                   (uint32_t)time(NULL), 1, 0};
+                                   (uint32_t)time(NULL), 1};
     uint32_t answer = zendurai_point_start(&point, sizeof room, &setup, (const uint8_t *)argv[1], strlen(argv[1]),
                                            (const uint8_t *)argv[3], strlen(argv[3]), lies, clock_ms());
     if (answer) return fprintf(stderr, "no start: %u\n", (unsigned)answer), 1;

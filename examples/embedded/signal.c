@@ -72,7 +72,7 @@ int main(int argc, char **argv) {
     timer_create(CLOCK_MONOTONIC, &by_signal, &fall);
     open_networks(argc - 5, argv + 5);
     struct zendurai_setup setup = {(uint32_t)atoi(argv[2]), (uint32_t)atoi(argv[4]), {0x67452301, 0xefcdab89, 0x98badcfe, 0x10325476},
-                                   (uint32_t)time(NULL), 1, 0};
+                                   (uint32_t)time(NULL), 1};
     uint32_t answer = zendurai_signal_start(&signal_1, sizeof room, &setup, (const uint8_t *)argv[1], strlen(argv[1]),
                                             (const uint8_t *)argv[3], strlen(argv[3]), clock_ms());
     if (answer) return fprintf(stderr, "no start: %u\n", (unsigned)answer), 1;

@@ -175,8 +175,7 @@ pub extern "C" fn zendurai_detector_start(
         first_sequence_number: setup.first_sequence_number,
         now,
     };
-    let is_strict = setup.is_strict();
-    match Embedded::new(alloc, parties, start, detection, setup.version, is_strict) {
+    match Embedded::new(alloc, parties, start, detection, setup.version) {
         Ok(it) => {
             handle.put(Held {
                 kind: Kind::Detector(it),

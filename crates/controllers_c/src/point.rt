@@ -170,15 +170,7 @@ pub extern "C" fn zendurai_point_start(
         first_sequence_number: setup.first_sequence_number,
         now,
     };
-    let is_strict = setup.is_strict();
-    match Embedded::new(
-        alloc,
-        parties,
-        start,
-        Point::new(position),
-        setup.version,
-        is_strict,
-    ) {
+    match Embedded::new(alloc, parties, start, Point::new(position), setup.version) {
         Ok(it) => {
             handle.put(Held {
                 kind: Kind::Point(it),

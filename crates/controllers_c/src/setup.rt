@@ -2,7 +2,7 @@
 
 ghost use Rattle.std.specs.Prelude.{◌≡◌, ◌↔◌, IsSome, IfSome};
 ghost use Rattle.sci_telegram.specs.Names.{IsName};
-ghost use Rattle.controllers_c.specs.Setups.{is_strict, key_of, parties_of};
+ghost use Rattle.controllers_c.specs.Setups.{key_of, parties_of};
 
 use object_host::Parties;
 use rasta_pdu::Key;
@@ -23,17 +23,6 @@ pub struct Setup {
     pub first_sequence_number: u32,
     /// Of the telegrams: 1, or 2 with the aspect slow.
     pub version: u8,
-    /// Whether the station keeps trains apart: 0 where it doesn't.
-    pub trains: u8,
-}
-
-impl Setup {
-    /// Whether the station keeps trains apart.
-    pub(crate) fn is_strict(&self) -> bool
-        ensures { result ≡ is_strict self.now }
-    {
-        self.trains != 0
-    }
 }
 
 /// The key of a network.

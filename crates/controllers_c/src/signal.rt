@@ -150,15 +150,7 @@ pub extern "C" fn zendurai_signal_start(
         first_sequence_number: setup.first_sequence_number,
         now,
     };
-    let is_strict = setup.is_strict();
-    match Embedded::new(
-        alloc,
-        parties,
-        start,
-        Signal::new(),
-        setup.version,
-        is_strict,
-    ) {
+    match Embedded::new(alloc, parties, start, Signal::new(), setup.version) {
         Ok(it) => {
             handle.put(Held {
                 kind: Kind::Signal(it),

@@ -54,7 +54,7 @@ fn is_recent(now: Millis, empty: Option<Millis>) -> bool
 
 impl<C: Controller> Embedded<C> {
     /// A controller of these names and identities that starts at a reading of its clock, with a link that isn't in a connection.
-    /// `version` is the version of the telegrams, and `is_strict` whether the station keeps trains apart. No later call takes memory.
+    /// `version` is the version of the telegrams. No later call takes memory.
     #[tactic(auto, unfolding(crate::proofs::Below::new_host, crate::proofs::Below::keeping, crate::proofs::Below::created))]
     pub fn new(
         alloc: Global,
@@ -62,12 +62,11 @@ impl<C: Controller> Embedded<C> {
         start: Start,
         object: C,
         version: u8,
-        is_strict: bool,
     ) -> Result<Embedded<C>, AllocError>
-        ensures { IfOk result (λ embedded. embedded ≡ started (new_host C.behaviour (record { role = Server; own = parties.own; partner = parties.partner; key = parties.key }) parties.own_name parties.peer_name start.first_sequence_number start.now object version is_strict) start.now) }
+        ensures { IfOk result (λ embedded. embedded ≡ started (new_host C.behaviour (record { role = Server; own = parties.own; partner = parties.partner; key = parties.key }) parties.own_name parties.peer_name start.first_sequence_number start.now object version) start.now) }
     {
         let now = start.now;
-        let hosted = Hosted::new(alloc, parties, start, object, version, is_strict)?;
+        let hosted = Hosted::new(alloc, parties, start, object, version)?;
         Ok(Embedded {
             hosted,
             begun: now,

@@ -1,6 +1,6 @@
 //! What the calls of a loop come to: laws, as functions that do nothing.
 
-ghost use Rattle.std.specs.Prelude.{◌≡◌, ◌≤◌, ◌+◌, ◌++◌, ℕ, false, true, is_ok, Ok, Err, Some, List, Bool};
+ghost use Rattle.std.specs.Prelude.{◌≡◌, ◌≤◌, ◌+◌, ◌++◌, ℕ, false, true, is_ok, Ok, Err, Some, List};
 ghost use Rattle.rasta_core.specs.identity.Identity.{Identity};
 ghost use Rattle.object_host.specs.Host.{HostState};
 ghost use Rattle.object_host.specs.Hosted.{new_host};
@@ -67,8 +67,8 @@ pub fn the_equipment_follows_what_counts<C: Controller>()
 /// One that has just started has its equipment rest at every reading: stop, no drive.
 #[tactic(auto, using(crate::proofs::Resting::rests))]
 pub fn one_that_starts_rests<C: Controller>()
-    ensures { (identity : Identity) (own_name peer_name : List ℕ) (first_sequence_number now version reading : ℕ) (object : C) (is_strict : Bool)
-        → C.behaviour.is_restrictive reading (started (new_host C.behaviour identity own_name peer_name first_sequence_number now object version is_strict) now).hosted.host.object ≡ true }
+    ensures { (identity : Identity) (own_name peer_name : List ℕ) (first_sequence_number now version reading : ℕ) (object : C)
+        → C.behaviour.is_restrictive reading (started (new_host C.behaviour identity own_name peer_name first_sequence_number now object version) now).hosted.host.object ≡ true }
 {}
 
 /// Small loops, worked by hand.

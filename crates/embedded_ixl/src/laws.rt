@@ -4,7 +4,7 @@ ghost use Rattle.std.specs.Prelude.{◌≡◌, ◌≤◌, ◌<◌, ◌+◌, ◌�
 ghost use Rattle.ixl_state.specs.State.{StateView};
 ghost use Rattle.ixl_state.specs.ixl_spec.Due.{Admissible};
 ghost use Rattle.ixl_state.specs.ixl_spec.Refusals.{IsRequestRefused};
-ghost use Rattle.ixl_state.specs.ixl_spec.Step.{Commands, as_found};
+ghost use Rattle.ixl_state.specs.ixl_spec.Step.{Commands, all_clocked};
 ghost use Rattle.ixl_state.specs.ixl_spec.View.{authority_from};
 ghost use Rattle.ixl_state.specs.ixl_spec.declared.command.Command.TheVariants as commands;
 ghost use Rattle.ixl_state.specs.ixl_spec.declared.command.Refusal.{Refusal};
@@ -56,9 +56,9 @@ pub fn a_refusal_has_its_cause()
 #[tactic(auto, using(crate::proofs::Requests::cause_is))]
 pub fn a_request_is_accepted_where_admissible()
     ensures accepted { (now : ℕ) (route : RouteId) (it : EmbeddedIxlState) → cause_in (reply_to now (Commands (commands.Request route)) it) ≡ None
-        ↔ Admissible now it.interlocking.state.sited.table (as_found now it.interlocking.state.ixl) route.0 }
+        ↔ Admissible now it.interlocking.state.sited.table (all_clocked now it.interlocking.state.ixl) route.0 }
     ensures refused { (now : ℕ) (route : RouteId) (it : EmbeddedIxlState) (cause : Refusal) → cause_in (reply_to now (Commands (commands.Request route)) it) ≡ Some cause
-        → IsRequestRefused now it.interlocking.state.sited.table (as_found now it.interlocking.state.ixl) route.0 cause }
+        → IsRequestRefused now it.interlocking.state.sited.table (all_clocked now it.interlocking.state.ixl) route.0 cause }
 {
     request_is_accepted_where_admissible();
 }

@@ -16,7 +16,7 @@ use Rattle.ixl_state.specs.ixl_known.Field.{AllUnder, node_at}
 use Rattle.ixl_state.specs.ixl_known.declared.node.Node.{Node as NamedNode}
 use Rattle.ixl_state.specs.ixl_known.declared.node.Node.TheVariants as nodes
 use Rattle.ixl_state.specs.ixl_spec.State.{IxlState, KnownDetectorState, KnownPointState, KnownSignalState}
-use Rattle.ixl_state.specs.ixl_spec.Step.{Datagram, addressed, as_found, client_at, client_of, given, node_hearing, node_of, verdict_at, verdict_of}
+use Rattle.ixl_state.specs.ixl_spec.Step.{Datagram, addressed, all_clocked, client_at, client_of, given, node_hearing, node_of, verdict_at, verdict_of}
 use Rattle.ixl_state.specs.ixl_spec.StepSoFar.{begun_with}
 use Rattle.ixl_state.specs.First.{key_of}
 use Rattle.ixl_state.specs.State.{Goes, StateView, field_of}
@@ -65,7 +65,7 @@ module _ (now : ℕ) (key : Key) (bytes : List ℕ) (node : NamedNode) (old : St
     read = ap (λ (k : Key). reading k bytes) (under-at (key_of old.sited.site) old node may.client under may.at ∙ sym key_is) ∙ read;
   }
 
-  client_there : client_at (node_at node) (as_found now clocked.0) ≡ Some may.client
+  client_there : client_at (node_at node) (all_clocked now clocked.0) ≡ Some may.client
   client_there = subst (λ (i : IxlState). client_at (node_at node) i ≡ Some may.client) clocked.1 may.at
 
   pub judged_goes : (box : OutboxState) (new : StateView) (out : OutboxState) → Goes now 30 (node_hearing now old.sited.table bytes (node_at node)) old box new out →

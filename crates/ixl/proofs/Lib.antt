@@ -10,7 +10,6 @@ pub mod InputEffects
 pub mod Unread
 pub mod Judged
 pub mod Looks
-pub mod Notes
 pub mod CommandEffects
 pub mod FirstRoutes
 pub mod ClosedThings

@@ -4,11 +4,10 @@ use Rattle.std.specs.Prelude.{◌&&◌, nat_le, not, map, Option, Some, None, Re
 use Rattle.std.specs.FinSet.{empty}
 use Rattle.std.proofs.lemmas.Bool.{false≢true}
 use Rattle.std.proofs.lemmas.Option.{none-some, same_Some}
-use Rattle.ixl_state.specs.rasta_core.Calls.{closing_by, hearing_bytes, receiving}
-use Rattle.ixl_state.specs.rasta_core.CaughtUp.{caught_up, is_recovering}
-use Rattle.ixl_state.specs.rasta_core.Clock.{alive_until, deadline, settled, state_at}
+use Rattle.ixl_state.specs.rasta_core.Calls.{hearing_bytes, receiving}
+use Rattle.ixl_state.specs.rasta_core.Clock.{deadline, settled}
 use Rattle.ixl_state.specs.rasta_core.Outbox.{OutboxState, posted}
-use Rattle.ixl_state.specs.rasta_core.PdusHandedOut.{Step, closing, entered, limited, sending, silent, telling}
+use Rattle.ixl_state.specs.rasta_core.PdusHandedOut.{Step, entered, limited, silent, telling}
 use Rattle.ixl_state.specs.rasta_core.Receipt.{Receipt, refusing}
 use Rattle.ixl_state.specs.rasta_core.State.{LinkState, is_open, is_up}
 use Rattle.ixl_state.specs.rasta_core.reason.Reason.TheVariants as reason
@@ -20,13 +19,13 @@ use Rattle.ixl_state.specs.rasta_pdu.declared.pdu.Pdu.{Pdu}
 use Rattle.ixl_state.specs.ixl_client.Client.{ClientState, IsClient, is_outside, is_ready}
 use Rattle.ixl_state.specs.ixl_client.ClientSoFar as client
 use Rattle.ixl_state.specs.ixl_client.ClientSoFar.{Receives, begun, calling}
-use Rattle.ixl_state.specs.ixl_client.Step.{acting_all, clocked, closed_behind, ending, fallen, hearing, is_behind, rising, watched}
+use Rattle.ixl_state.specs.ixl_client.Step.{acting_all, clocked, ending, fallen, hearing, rising}
 use Rattle.ixl_state.specs.ixl_client.declared.indication.Indication.{Indication}
 use Rattle.ixl_state.specs.ixl_client.declared.stage.Stage.{Stage}
 use Rattle.ixl_state.specs.ixl_client.declared.stage.Stage.TheVariants as stage
 use Rattle.ixl_state.specs.ixl_spec.StepSoFar.{Detector, Node, Point, Signal, StepSoFar, along, begun_with, detector_after, known_point_after, known_signal_after, noted, with_detector, with_known_point, with_known_signal, with_one}
 use Rattle.ixl_state.specs.ixl_spec.State.{IxlState, KnownDetectorState, KnownPointState, KnownSignalState, changed}
-use Rattle.ixl_state.specs.ixl_spec.Step.{as_found, client_at, clocked_detector, clocked_known_point, clocked_known_signal, closed_detector, closed_known_point, closed_known_signal, detector_hearing, indicated_heard, known_point_hearing, known_signal_hearing, looking, looks, node_hearing, occupied_heard, side_heard}
+use Rattle.ixl_state.specs.ixl_spec.Step.{all_clocked, client_at, clocked_detector, clocked_known_point, clocked_known_signal, detector_hearing, indicated_heard, known_point_hearing, known_signal_hearing, looking, looks, node_hearing, occupied_heard, side_heard}
 use Rattle.ixl_state.specs.ixl_spec.Table.{Table}
 use Rattle.ixl.specs.inside.Judged.{is_at_limit}
 use Rattle.ixl.proofs.StepParts.{Comes}
@@ -63,7 +62,7 @@ unread_refused now bytes link fault same below read =
 
 -- what a client does with what its link makes of a datagram
 abbrev with_receipt : ℕ → List ℕ → client.ClientSoFar → Receipt → client.ClientSoFar
-with_receipt now bytes part receipt = ending now (acting_all now receipt.items (rising now (record part {
+with_receipt now bytes part receipt = ending (acting_all now receipt.items (rising now (record part {
   client = record part.client { link = receipt.link };
   outbox = posted part.client.link.identity.key receipt.pdus part.outbox;
   calls = part.calls ++ Receives bytes ∷ [];
@@ -100,11 +99,11 @@ rising_still now part steady = by_link (is_up part.client.link.phase) refl where
   by_link true up = rw (steady ∙ ap not up) refl
   by_link false down = rw (steady ∙ ap not down, down) refl
 
-refused_unheard : (now : ℕ) (bytes : List ℕ) (part : client.ClientSoFar) → is_outside part.client.stage ≡ not (is_up part.client.link.phase) → watched now part.client ≡ part.client → (why : Verdict) →
+refused_unheard : (now : ℕ) (bytes : List ℕ) (part : client.ClientSoFar) → is_outside part.client.stage ≡ not (is_up part.client.link.phase) → (why : Verdict) →
     Unheard part (with_receipt now bytes part (refusing why part.client.link))
 unfolding acting_all posted
-refused_unheard now bytes part steady held why = record {
-  client = ap (λ (p : client.ClientSoFar). watched now (fallen p.client)) (rising_still now kept steady) ∙ ap (watched now) (fallen_still part.client steady) ∙ held;
+refused_unheard now bytes part steady why = record {
+  client = ap (λ (p : client.ClientSoFar). fallen p.client) (rising_still now kept steady) ∙ fallen_still part.client steady;
   outbox = ap (λ (p : client.ClientSoFar). p.outbox) (rising_still now kept steady) ∙ ap (λ list. record part.outbox { datagrams = list }) (append-nil part.outbox.datagrams);
   heard = ap (λ (p : client.ClientSoFar). p.heard) (rising_still now kept steady);
 } where
@@ -117,71 +116,17 @@ pub record CannotRead (bytes : List ℕ) (fault : PduFault) (one : ClientState) 
   pub below : is_at_limit one.link ≡ false
   pub read : reading one.link.identity.key bytes ≡ Err fault
 
-unheard : (now : ℕ) (bytes : List ℕ) (fault : PduFault) (one : ClientState) (outbox : OutboxState) → CannotRead bytes fault one → settled now one.link ≡ one.link → watched now one ≡ one →
+unheard : (now : ℕ) (bytes : List ℕ) (fault : PduFault) (one : ClientState) (outbox : OutboxState) → CannotRead bytes fault one → settled now one.link ≡ one.link →
     Unheard (begun one outbox) (hearing now bytes (begun one outbox))
-unheard now bytes fault one outbox is same held = subst (Unheard (begun one outbox))
+unheard now bytes fault one outbox is same = subst (Unheard (begun one outbox))
     (sym (hearing_is now bytes (begun one outbox) ∙ ap (with_receipt now bytes (begun one outbox)) (unread_refused now bytes one.link fault same is.below is.read)))
-    (refused_unheard now bytes (begun one outbox) is.steady.outside held (verdicts.Unreadable fault))
+    (refused_unheard now bytes (begun one outbox) is.steady.outside (verdicts.Unreadable fault))
 
--- ---- an interlocking as the input finds it
+-- ---- an interlocking once the clock has acted
 
 clocked_settled : (now : ℕ) (one : ClientState) → settled now (clocked now one).link ≡ (clocked now one).link
 unfolding clocked fallen
-clocked_settled now one = either (λ (c : ClientState). settled now c.link ≡ c.link) (is_up (settled now one.link).phase) after (record after { stage = stage.Outside }) (settled_again now one.link) (settled_again now one.link)
-  where
-    after : ClientState
-    after = record one { link = settled now one.link }
-
--- how long a link is caught up is told once
-caught_up_twice : (now kept : ℕ) (link : LinkState) → caught_up now (caught_up now kept link) link ≡ caught_up now kept link
-caught_up_twice now kept link = cases (is_recovering (state_at now link)) where
-  cases : (b : Bool) → (if b then if b then kept else alive_until link else alive_until link) ≡ (if b then kept else alive_until link)
-  cases true = refl
-  cases false = refl
-
-watched_twice : (now : ℕ) (one : ClientState) → watched now (watched now one) ≡ watched now one
-watched_twice now one = ap (λ until. record one { caught_up_until = until }) (caught_up_twice now one.caught_up_until one.link)
-
-found_watched : (now : ℕ) (old : ClientState) → watched now (closed_behind now (clocked now old)) ≡ closed_behind now (clocked now old)
-unfolding closed_behind clocked
-found_watched now old = either (λ (c : ClientState). watched now c ≡ c) (is_behind now (clocked now old))
-    (watched now (fallen (record (clocked now old) { link = (closing_by now reason.User (clocked now old).link).link }))) (clocked now old)
-    (watched_twice now (fallen (record (clocked now old) { link = (closing_by now reason.User (clocked now old).link).link })))
-    (watched_twice now (fallen (record old { link = settled now old.link })))
-
--- a link that closed at this reading is settled at it
-settled_clock : (now : ℕ) (link : LinkState) → (settled now link).clock ≡ now
-unfolding settled
-settled_clock now link = either (λ (l : LinkState). l.clock ≡ now) (is_open link.phase && nat_le (deadline link) now) _ _ refl refl
-
-entered_clock : (now : ℕ) (link : LinkState) → (entered now link).link.clock ≡ now
-unfolding entered limited telling sending
-entered_clock now link = either (λ (s : Step). s.link.clock ≡ now) (is_at_limit (settled now link)) (telling reason.Sequence (settled now link)) (silent (settled now link)) (settled_clock now link) (settled_clock now link)
-
-closed_clock : (now : ℕ) (link : LinkState) → (closing_by now reason.User link).link.clock ≡ now
-unfolding closing_by closing telling sending
-closed_clock now link = either (λ (s : Step). s.link.clock ≡ now) (is_open (entered now link).link.phase) (closing reason.User (entered now link).link) (silent (entered now link).link)
-    (entered_clock now link) (entered_clock now link)
-
-closed_closed : (now : ℕ) (link : LinkState) → is_open (closing_by now reason.User link).link.phase ≡ false
-unfolding closing_by closing telling sending
-closed_closed now link = picked (λ (s : Step). is_open s.link.phase ≡ false) (is_open (entered now link).link.phase) (closing reason.User (entered now link).link) (silent (entered now link).link)
-    (λ opened. refl) (λ closed. closed)
-
-closed_settled : (now : ℕ) (link : LinkState) → is_open link.phase ≡ false → link.clock ≡ now → settled now link ≡ link
-unfolding settled
-closed_settled now link closed at = rw closed (λ i. record link { clock = sym at i })
-
-found_settled : (now : ℕ) (one : ClientState) → settled now one.link ≡ one.link → settled now (closed_behind now one).link ≡ (closed_behind now one).link
-unfolding closed_behind fallen
-found_settled now one same = either (λ (c : ClientState). settled now c.link ≡ c.link) (is_behind now one) _ _
-    (either (λ (c : ClientState). settled now (watched now c).link ≡ (watched now c).link) (is_up after.phase) _ _ rests rests) same
-  where
-    after : LinkState
-    after = (closing_by now reason.User one.link).link
-
-    rests : settled now after ≡ after
-    rests = closed_settled now after (closed_closed now one.link) (closed_clock now one.link)
+clocked_settled now one = either (λ (c : ClientState). settled now c.link ≡ c.link) (is_up (settled now one.link).phase) _ _ (settled_again now one.link) (settled_again now one.link)
 
 known_signal_client : (aspect : _) (number : ℕ) (indicated : _) (one : ClientState) → (known_signal_after aspect number indicated one).client ≡ one
 unfolding known_signal_after
@@ -248,7 +193,7 @@ looks_nothing sections detector heard one none same = ap (λ list. looks section
 
 module _ (now : ℕ) (table : Table) (bytes : List ℕ) (fault : PduFault) (before : IxlState) (outbox : OutboxState) where
   abbrev ixl : IxlState
-  ixl = as_found now before
+  ixl = all_clocked now before
 
   abbrev part : StepSoFar
   part = begun_with ixl outbox
@@ -256,65 +201,61 @@ module _ (now : ℕ) (table : Table) (bytes : List ℕ) (fault : PduFault) (befo
   abbrev Stays : StepSoFar → Type 0
   Stays after = Comes after ixl outbox
 
-  -- a client that the input finds
-  abbrev IsFound : ClientState → Type 0
-  IsFound one = (settled now one.link ≡ one.link) × (watched now one ≡ one)
+  still : (one old other : ClientState) → one ≡ clocked now old → one ≡ other → settled now other.link ≡ other.link
+  still one old other is same = subst (λ (c : ClientState). settled now c.link ≡ c.link) (sym is ∙ same) (clocked_settled now old)
 
-  still : (one old other : ClientState) → one ≡ closed_behind now (clocked now old) → one ≡ other → IsFound other
-  still one old other is same = subst IsFound (sym is ∙ same) (found_settled now (clocked now old) (clocked_settled now old), found_watched now old)
-
-  signal_settled : (place : ℕ) (one : ClientState) → client_at (Signal place) ixl ≡ Some one → IsFound one
-  unfolding as_found
+  signal_settled : (place : ℕ) (one : ClientState) → client_at (Signal place) ixl ≡ Some one → settled now one.link ≡ one.link
+  unfolding all_clocked
   signal_settled place one is = by_kept (slice_get ixl.known_signals place) refl where
-    by_kept : (kept : Option KnownSignalState) → slice_get ixl.known_signals place ≡ kept → IsFound one
+    by_kept : (kept : Option KnownSignalState) → slice_get ixl.known_signals place ≡ kept → settled now one.link ≡ one.link
     by_kept None none = absurd (none-some one (rw none at is))
     by_kept (Some known_signal) there =
-        let old = was_mapped (λ kept. closed_known_signal now (clocked_known_signal now kept)) place before.known_signals known_signal there
+        let old = was_mapped (clocked_known_signal now) place before.known_signals known_signal there
         in still known_signal.client old.0.client one
-        (ap (λ (l : KnownSignalState). l.client) old.1 ∙ known_signal_client _ _ _ _ ∙ ap (closed_behind now) (known_signal_client old.0.aspect old.0.number old.0.indicated (clocked now old.0.client)))
+        (ap (λ (l : KnownSignalState). l.client) old.1 ∙ known_signal_client old.0.aspect old.0.number old.0.indicated (clocked now old.0.client))
         (same_Some known_signal.client one (rw there at is))
 
-  point_settled : (place : ℕ) (one : ClientState) → client_at (Point place) ixl ≡ Some one → IsFound one
-  unfolding as_found
+  point_settled : (place : ℕ) (one : ClientState) → client_at (Point place) ixl ≡ Some one → settled now one.link ≡ one.link
+  unfolding all_clocked
   point_settled place one is = by_kept (slice_get ixl.known_points place) refl where
-    by_kept : (kept : Option KnownPointState) → slice_get ixl.known_points place ≡ kept → IsFound one
+    by_kept : (kept : Option KnownPointState) → slice_get ixl.known_points place ≡ kept → settled now one.link ≡ one.link
     by_kept None none = absurd (none-some one (rw none at is))
     by_kept (Some known_point) there =
-        let old = was_mapped (λ kept. closed_known_point now (clocked_known_point now kept)) place before.known_points known_point there
+        let old = was_mapped (clocked_known_point now) place before.known_points known_point there
         in still known_point.client old.0.client one
-        (ap (λ (s : KnownPointState). s.client) old.1 ∙ known_point_client _ _ _ ∙ ap (closed_behind now) (known_point_client old.0.side old.0.moved (clocked now old.0.client)))
+        (ap (λ (s : KnownPointState). s.client) old.1 ∙ known_point_client old.0.side old.0.moved (clocked now old.0.client))
         (same_Some known_point.client one (rw there at is))
 
-  detector_settled : (place : ℕ) (one : ClientState) → client_at (Detector place) ixl ≡ Some one → IsFound one
-  unfolding as_found
+  detector_settled : (place : ℕ) (one : ClientState) → client_at (Detector place) ixl ≡ Some one → settled now one.link ≡ one.link
+  unfolding all_clocked
   detector_settled place one is = by_kept (slice_get ixl.detectors place) refl where
-    by_kept : (kept : Option KnownDetectorState) → slice_get ixl.detectors place ≡ kept → IsFound one
+    by_kept : (kept : Option KnownDetectorState) → slice_get ixl.detectors place ≡ kept → settled now one.link ≡ one.link
     by_kept None none = absurd (none-some one (rw none at is))
     by_kept (Some detector) there =
-        let old = was_mapped (λ kept. closed_detector now (clocked_detector now kept)) place before.detectors detector there
+        let old = was_mapped (clocked_detector now) place before.detectors detector there
         in still detector.client old.0.client one
-        (ap (λ (d : KnownDetectorState). d.client) old.1 ∙ detector_client _ _ ∙ ap (closed_behind now) (detector_client old.0.occupied (clocked now old.0.client)))
+        (ap (λ (d : KnownDetectorState). d.client) old.1 ∙ detector_client old.0.occupied (clocked now old.0.client))
         (same_Some detector.client one (rw there at is))
 
-  pub node_settled : (node : Node) (one : ClientState) → client_at node (as_found now before) ≡ Some one → settled now one.link ≡ one.link
-  node_settled (Signal place) one is = (signal_settled place one is).0
-  node_settled (Point place) one is = (point_settled place one is).0
-  node_settled (Detector place) one is = (detector_settled place one is).0
+  pub node_settled : (node : Node) (one : ClientState) → client_at node (all_clocked now before) ≡ Some one → settled now one.link ≡ one.link
+  node_settled (Signal place) one is = signal_settled place one is
+  node_settled (Point place) one is = point_settled place one is
+  node_settled (Detector place) one is = detector_settled place one is
 
   -- what a client that is another name of this one hears
-  heard_by_same : (one other : ClientState) → one ≡ other → CannotRead bytes fault other → IsFound other → Unheard (begun one outbox) (hearing now bytes (begun one outbox))
-  heard_by_same one other same said rests = subst (λ (c : ClientState). Unheard (begun c outbox) (hearing now bytes (begun c outbox))) (sym same) (unheard now bytes fault other outbox said rests.0 rests.1)
+  heard_by_same : (one other : ClientState) → one ≡ other → CannotRead bytes fault other → settled now other.link ≡ other.link → Unheard (begun one outbox) (hearing now bytes (begun one outbox))
+  heard_by_same one other same said rests = subst (λ (c : ClientState). Unheard (begun c outbox) (hearing now bytes (begun c outbox))) (sym same) (unheard now bytes fault other outbox said rests)
 
   signal_stays : (place : ℕ) (one : ClientState) → client_at (Signal place) ixl ≡ Some one → CannotRead bytes fault one → Stays (known_signal_hearing now bytes place part)
-  unfolding known_signal_hearing as_found known_signal_by
+  unfolding known_signal_hearing all_clocked known_signal_by
   signal_stays place one is said = by_known_signal (slice_get part.ixl.known_signals place) refl where
     by_known_signal : (kept : Option KnownSignalState) → slice_get part.ixl.known_signals place ≡ kept → Stays (with_one kept (known_signal_by now bytes place) part)
     by_known_signal None none = (refl, refl)
     by_known_signal (Some known_signal) there =
-        let old = was_mapped (λ kept. closed_known_signal now (clocked_known_signal now kept)) place before.known_signals known_signal there
+        let old = was_mapped (clocked_known_signal now) place before.known_signals known_signal there
         in let same : known_signal.client ≡ one = same_Some known_signal.client one (rw there at is)
         in let again : known_signal_after known_signal.aspect known_signal.number known_signal.indicated known_signal.client ≡ known_signal =
-        subst (λ (l : KnownSignalState). known_signal_after l.aspect l.number l.indicated l.client ≡ l) (sym old.1) (known_signal_again (clocked_known_signal now old.0).aspect (clocked_known_signal now old.0).number (clocked_known_signal now old.0).indicated (closed_behind now (clocked_known_signal now old.0).client))
+        subst (λ (l : KnownSignalState). known_signal_after l.aspect l.number l.indicated l.client ≡ l) (sym old.1) (known_signal_again old.0.aspect old.0.number old.0.indicated (clocked now old.0.client))
         in let done = hearing now bytes (begun known_signal.client part.outbox)
         in let nothing = heard_by_same known_signal.client one same said (signal_settled place one is)
         in (
@@ -325,15 +266,15 @@ module _ (now : ℕ) (table : Table) (bytes : List ℕ) (fault : PduFault) (befo
         )
 
   point_stays : (place : ℕ) (one : ClientState) → client_at (Point place) ixl ≡ Some one → CannotRead bytes fault one → Stays (known_point_hearing now bytes place part)
-  unfolding known_point_hearing as_found known_point_by
+  unfolding known_point_hearing all_clocked known_point_by
   point_stays place one is said = by_known_point (slice_get part.ixl.known_points place) refl where
     by_known_point : (kept : Option KnownPointState) → slice_get part.ixl.known_points place ≡ kept → Stays (with_one kept (known_point_by now bytes place) part)
     by_known_point None none = (refl, refl)
     by_known_point (Some known_point) there =
-        let old = was_mapped (λ kept. closed_known_point now (clocked_known_point now kept)) place before.known_points known_point there
+        let old = was_mapped (clocked_known_point now) place before.known_points known_point there
         in let same : known_point.client ≡ one = same_Some known_point.client one (rw there at is)
         in let again : known_point_after known_point.side known_point.moved known_point.client ≡ known_point =
-        subst (λ (s : KnownPointState). known_point_after s.side s.moved s.client ≡ s) (sym old.1) (known_point_again (clocked_known_point now old.0).side (clocked_known_point now old.0).moved (closed_behind now (clocked_known_point now old.0).client))
+        subst (λ (s : KnownPointState). known_point_after s.side s.moved s.client ≡ s) (sym old.1) (known_point_again old.0.side old.0.moved (clocked now old.0.client))
         in let done = hearing now bytes (begun known_point.client part.outbox)
         in let nothing = heard_by_same known_point.client one same said (point_settled place one is)
         in (
@@ -344,7 +285,7 @@ module _ (now : ℕ) (table : Table) (bytes : List ℕ) (fault : PduFault) (befo
         )
 
   detector_stays : (place : ℕ) (one : ClientState) → client_at (Detector place) ixl ≡ Some one → CannotRead bytes fault one → Stays (detector_hearing now table bytes place part)
-  unfolding detector_hearing as_found detector_by
+  unfolding detector_hearing all_clocked detector_by
   detector_stays place one is said = by_sections (slice_get table.detectors place) where
     heard_by : List ℕ → KnownDetectorState → StepSoFar → StepSoFar
     heard_by sections detector p =
@@ -354,10 +295,10 @@ module _ (now : ℕ) (table : Table) (bytes : List ℕ) (fault : PduFault) (befo
     by_detector : (sections : List ℕ) (kept : Option KnownDetectorState) → slice_get part.ixl.detectors place ≡ kept → Stays (with_one kept (heard_by sections) part)
     by_detector sections None none = (refl, refl)
     by_detector sections (Some detector) there =
-        let old = was_mapped (λ kept. closed_detector now (clocked_detector now kept)) place before.detectors detector there
+        let old = was_mapped (clocked_detector now) place before.detectors detector there
         in let same : detector.client ≡ one = same_Some detector.client one (rw there at is)
         in let again : detector_after detector.occupied detector.client ≡ detector =
-        subst (λ (d : KnownDetectorState). detector_after d.occupied d.client ≡ d) (sym old.1) (detector_again (clocked_detector now old.0).occupied (closed_behind now (clocked_detector now old.0).client))
+        subst (λ (d : KnownDetectorState). detector_after d.occupied d.client ≡ d) (sym old.1) (detector_again old.0.occupied (clocked now old.0.client))
         in let done = hearing now bytes (begun detector.client part.outbox)
         in let nothing = heard_by_same detector.client one same said (detector_settled place one is)
         in subst (λ list. Stays (along (looking table) list (detector_by now bytes place detector part))) (sym (looks_nothing sections detector _ _ nothing.heard nothing.client)) (
@@ -370,7 +311,7 @@ module _ (now : ℕ) (table : Table) (bytes : List ℕ) (fault : PduFault) (befo
     by_sections None = (refl, refl)
     by_sections (Some sections) = by_detector sections (slice_get part.ixl.detectors place) refl
 
-  pub node_stays : (node : Node) (one : ClientState) → client_at node ixl ≡ Some one → CannotRead bytes fault one → Comes (node_hearing now table bytes node (begun_with (as_found now before) outbox)) (as_found now before) outbox
+  pub node_stays : (node : Node) (one : ClientState) → client_at node ixl ≡ Some one → CannotRead bytes fault one → Comes (node_hearing now table bytes node (begun_with (all_clocked now before) outbox)) (all_clocked now before) outbox
   unfolding node_hearing
   node_stays (Signal place) one is said = signal_stays place one is said
   node_stays (Point place) one is said = point_stays place one is said

@@ -2,14 +2,14 @@
 
 ghost use Rattle.std.specs.Prelude.{◌≡◌, ◌<◌, ◌&&◌, ◌||◌, length};
 ghost use Rattle.ixl_state.specs.ixl_spec.StepSoFar.{over};
-ghost use Rattle.ixl_state.specs.ixl_spec.Rules.{count, freeing_by_cancel, frees_cancelled, is_fresh, is_release_over, none_seen};
+ghost use Rattle.ixl_state.specs.ixl_spec.Rules.{count, freeing_by_cancel, frees_cancelled, is_release_over, none_seen};
 ghost use Rattle.ixl_state.specs.ixl_spec.View.{all_clear};
 ghost use Rattle.ixl_state.specs.release.Approach.{is_due};
 ghost use Rattle.ixl_state.specs.State.{AtRoute};
 ghost use Rattle.ixl.specs.inside.Changes.{Changes};
 
 use crate::field_known::{are_sections_clear, is_at_known_stop};
-use ixl_state::release::{APPROACH_TIME, have_come, is_clear_long};
+use ixl_state::release::APPROACH_TIME;
 use ixl_state::{Millis, Phase, Route, State};
 
 /// Whether no section of a route was reported occupied since authority was given.
@@ -31,31 +31,21 @@ fn is_release_over(route: Route, now: Millis) -> bool
     }
 }
 
-/// Whether the reports of a route whose authority has ended are fresh, where trains are kept apart.
-fn is_fresh(state: &State, now: Millis, number: usize, ended_at: Millis) -> bool
-    requires { number < length state.now.sited.table.rows }
-    ensures { AtRoute state.now number (λ row route. result ≡ is_fresh now state.now.sited.table route ended_at) }
-{
-    !state.table().is_strict()
-        || (have_come(ended_at, now) && is_clear_long(now, state.route(number).clear_since()))
-}
-
-/// Whether no train came to a route whose authority has ended, the approach lets it go, and its reports are fresh.
+/// Whether no train came to a route whose authority has ended, and the approach lets it go.
 fn none_came(state: &State, now: Millis, number: usize, ended_at: Millis) -> bool
     requires { number < length state.now.sited.table.rows }
-    ensures { AtRoute state.now number (λ row route. result ≡ (none_seen (length row.sections) route.passage && all_clear state.now.sited.table state.now.ixl row.sections && is_due route.approached ended_at now && is_fresh now state.now.sited.table route ended_at)) }
+    ensures { AtRoute state.now number (λ row route. result ≡ (none_seen (length row.sections) route.passage && all_clear state.now.sited.table state.now.ixl row.sections && is_due route.approached ended_at now)) }
 {
     was_none_seen(state, number)
         && are_sections_clear(state, number)
         && state.route(number).approach().due(ended_at, now)
-        && is_fresh(state, now, number, ended_at)
 }
 
 /// Whether a route whose authority has ended lets itself be freed: no train came, and the approach lets it go; or its
 /// release is over.
 fn lets_go(state: &State, now: Millis, number: usize, ended_at: Millis) -> bool
     requires { number < length state.now.sited.table.rows }
-    ensures { AtRoute state.now number (λ row route. result ≡ ((none_seen (length row.sections) route.passage && all_clear state.now.sited.table state.now.ixl row.sections && is_due route.approached ended_at now && is_fresh now state.now.sited.table route ended_at) || is_release_over now route.released)) }
+    ensures { AtRoute state.now number (λ row route. result ≡ ((none_seen (length row.sections) route.passage && all_clear state.now.sited.table state.now.ixl row.sections && is_due route.approached ended_at now) || is_release_over now route.released)) }
 {
     none_came(state, now, number, ended_at) || is_release_over(state.route(number), now)
 }

@@ -3,7 +3,7 @@
 ghost use Rattle.std.specs.Prelude.{◌≡◌, ◌↔◌, ◌≤◌, ℕ};
 ghost use Rattle.ixl_state.specs.layout.declared.ids.RouteId.{RouteId};
 ghost use Rattle.ixl_state.specs.ixl_spec.Due.{Admissible};
-ghost use Rattle.ixl_state.specs.ixl_spec.Step.{Accepted, Commands, Refused, Reply, as_found};
+ghost use Rattle.ixl_state.specs.ixl_spec.Step.{Accepted, Commands, Refused, Reply, all_clocked};
 ghost use Rattle.ixl_state.specs.ixl_spec.declared.command.Command.TheVariants as commands;
 ghost use Rattle.ixl_state.specs.ixl_spec.declared.command.Refusal.{Refusal};
 ghost use Rattle.ixl_state.specs.ixl_spec.Refusals.{IsRequestRefused};
@@ -16,9 +16,9 @@ use ixl_state::ixl_spec::request_is_accepted_where_admissible;
 /// given.
 pub fn requests_are_accepted_where_admissible()
     ensures accepted { (now : ℕ) (route : RouteId) (old new : InterlockingState) (answer : Reply) → HasStepped now (Commands (commands.Request route)) old new answer
-        → answer ≡ Accepted ↔ Admissible now old.state.sited.table (as_found now old.state.ixl) route.0 }
+        → answer ≡ Accepted ↔ Admissible now old.state.sited.table (all_clocked now old.state.ixl) route.0 }
     ensures refused { (now : ℕ) (route : RouteId) (old new : InterlockingState) (answer : Reply) (cause : Refusal) → HasStepped now (Commands (commands.Request route)) old new answer
-        → answer ≡ Refused cause → IsRequestRefused now old.state.sited.table (as_found now old.state.ixl) route.0 cause }
+        → answer ≡ Refused cause → IsRequestRefused now old.state.sited.table (all_clocked now old.state.ixl) route.0 cause }
 {
     request_is_accepted_where_admissible();
 }

@@ -18,7 +18,6 @@ mod passage;
 mod point_moves;
 mod proceed_rule;
 mod refusals;
-mod sections_noted;
 mod six_rules;
 mod step;
 mod withdrawal;

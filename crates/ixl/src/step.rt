@@ -1,5 +1,4 @@
-//! A step: the clock, links that aren't caught up any more, the input, what is seen and noted, the six rules, and on a tick each
-//! link's.
+//! A step: the clock, the input, what is seen, the six rules, and on a tick each link's.
 
 ghost use Rattle.std.specs.Prelude.{◌≡◌, ◌+◌};
 ghost use Rattle.ixl_state.specs.rasta_core.Outbox.{HasRoomFor};
@@ -15,8 +14,6 @@ use crate::approaches_seen::watch;
 use crate::commands::command;
 use crate::datagrams_heard::hear;
 use crate::input::{Input, Reply};
-use crate::sections_noted::note;
-use ixl_state::ixl_spec::the_input_finds_what_is_caught_up;
 use ixl_state::{Key, Millis, Outbox, State};
 
 /// What the step is made for.
@@ -60,16 +57,13 @@ pub(crate) fn step(
 ) -> Reply
     requires clock { MayStepAll now state.old }
     requires under { key.now ≡ key_of state.old.sited.site }
-    requires room { HasRoomFor (80 + 30 + 4352 + 160 + 24) outbox.old }
-    ensures goes { Goes now (80 + 30 + 4352 + 160) (stepped now state.old.sited.table key.now (meant input.now)) state.old outbox.old state.new outbox.new }
+    requires room { HasRoomFor (30 + 4352 + 160 + 24) outbox.old }
+    ensures goes { Goes now (30 + 4352 + 160) (stepped now state.old.sited.table key.now (meant input.now)) state.old outbox.old state.new outbox.new }
     ensures answer { told result ≡ reply now state.old.sited.table key.now (meant input.now) state.old.ixl }
 {
-    the_input_finds_what_is_caught_up();
     state.settle(now);
-    state.close_behind(now, outbox);
     let reply = give(state, now, key, input, outbox);
     watch(state, now);
-    note(state, now);
     apply_rules(state, now, outbox);
     tick(state, now, input, outbox);
     reply

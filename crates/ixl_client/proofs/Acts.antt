@@ -18,11 +18,11 @@ use Rattle.rasta_core.specs.State.{LinkState, is_open, is_up}
 use Rattle.rasta_core.specs.phase.Phase.TheVariants as phase
 use Rattle.rasta_core.specs.reason.Reason.{Reason}
 use Rattle.rasta_core.specs.reason.Reason.TheVariants as reason
-use Rattle.ixl_client.specs.Client.{PeerState, is_outside}
+use Rattle.ixl_client.specs.Client.{ClientState, PeerState, is_outside}
 use Rattle.ixl_client.specs.Meaning.{meaning, meaning_of, initial_meaning, is_for_client, is_in_turn, is_in_version, is_match, place_of, report_meaning, state_in}
 use Rattle.ixl_client.specs.Made.{ActsOn, told_by, told_by_all, told_of}
 use Rattle.ixl_client.specs.ClientSoFar.{Closes, ClientSoFar, Receives, Sends, calling}
-use Rattle.ixl_client.specs.Step.{acted_on, acting, acting_all, at_stage, meaning_of_item, following, hearing, is_refused_by_window, posting, rising, saying, telegram_to}
+use Rattle.ixl_client.specs.Step.{acted_on, acting, acting_all, at_stage, meaning_of_item, ending, fallen, following, hearing, is_refused_by_window, posting, rising, saying, telegram_to}
 use Rattle.ixl_client.specs.declared.meaning.Meaning.{Meaning}
 use Rattle.ixl_client.specs.declared.meaning.Meaning.TheVariants as meanings
 use Rattle.ixl_client.specs.declared.indication.Indication.{Indication}

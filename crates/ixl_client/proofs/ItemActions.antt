@@ -4,7 +4,6 @@ use Rattle.std.proofs.lemmas.List.{at_drop_more, at_drop_all}
 use Rattle.rasta_core.specs.State.{is_open}
 use Rattle.rasta_core.specs.State.{LinkState, is_up}
 use Rattle.rasta_core.specs.Calls.{receiving}
-use Rattle.rasta_core.specs.reason.Reason.TheVariants as reason
 use Rattle.rasta_core.specs.Outbox.{OutboxState}
 use Rattle.ixl_client.specs.declared.indication.Indication.{Indication}
 use Rattle.ixl_client.specs.Client.{ClientState}
@@ -12,8 +11,8 @@ use Rattle.sci_telegram.specs.declared.message.Message.{Message}
 use Rattle.ixl_client.specs.declared.command.Command.{Command}
 use Rattle.ixl_client.specs.declared.stage.Stage.{Stage}
 use Rattle.ixl_client.specs.declared.stage.Stage.TheVariants as stage
-use Rattle.ixl_client.specs.ClientSoFar.{Closes, Opens, ClientSoFar, Receives, Seen, Ticks, calling, seen}
-use Rattle.ixl_client.specs.Step.{acting, acting_all, at_stage, commanding, ending, fallen, hearing, is_behind, closing_behind, message_of, posting, rising, stage_after_command, ticking, watched}
+use Rattle.ixl_client.specs.ClientSoFar.{Opens, ClientSoFar, Receives, Seen, Ticks, calling, seen}
+use Rattle.ixl_client.specs.Step.{acting, acting_all, at_stage, commanding, ending, fallen, hearing, message_of, posting, rising, stage_after_command, ticking}
 use Rattle.ixl_client.specs.Way.{Goes}
 use Rattle.ixl_client.proofs.PartsFollow.{going_as, going_more, going_nowhere, going_then, part_at, staged}
 
@@ -86,12 +85,12 @@ fallen_link client = cases (is_up client.link.phase) where
   cases false = refl
 
 -- the client is outside after a part that left its link so
-pub falls : (now most : ℕ) (does : ClientSoFar → ClientSoFar) (a b : Seen) (new : ClientState) → Goes now most does a b → new ≡ watched now (fallen b.client) →
-    Goes now most (λ part. ending now (does part)) a (record { client = new; outbox = b.outbox; heard = b.heard })
+pub falls : (now most : ℕ) (does : ClientSoFar → ClientSoFar) (a b : Seen) (new : ClientState) → Goes now most does a b → new ≡ fallen b.client →
+    Goes now most (λ part. ending (does part)) a (record { client = new; outbox = b.outbox; heard = b.heard })
 falls now most does a b new way is =
     let link_is : new.link ≡ b.client.link = ap (λ (c : ClientState). c.link) is ∙ fallen_link b.client
     in record {
-      leads = λ part same. ap (λ (v : Seen). record { client = watched now (fallen v.client); outbox = v.outbox; heard = v.heard }) (way.leads part same)
+      leads = λ part same. ap (λ (v : Seen). record { client = fallen v.client; outbox = v.outbox; heard = v.heard }) (way.leads part same)
           ∙ ap (λ (c : ClientState). record { client = c; outbox = b.outbox; heard = b.heard }) (sym is);
       clock = ap (λ (l : LinkState). l.clock) link_is ∙ way.clock;
       identity = ap (λ (l : LinkState). l.identity) link_is ∙ way.identity;
@@ -101,14 +100,14 @@ falls now most does a b new way is =
 
 pub hears : (now : ℕ) (bytes : List ℕ) (items : List (List ℕ)) (a b c d : Seen) (new : ClientState) →
     Goes now 22 (calling now (Receives bytes)) a b → Goes now 2 (rising now) b c → items ≡ (receiving now bytes a.client.link).items →
-    Goes now 6 (acting_all now items) c d → new ≡ watched now (fallen d.client) →
+    Goes now 6 (acting_all now items) c d → new ≡ fallen d.client →
     Goes now 30 (hearing now bytes) a (record { client = new; outbox = d.outbox; heard = d.heard })
 unfolding hearing
 hears now bytes items a b c d new received risen items-are acted is =
     let to_items = going_then now 22 2 (calling now (Receives bytes)) (rising now) a b c received risen
     in let all = going_then now 24 6 (λ part. rising now (calling now (Receives bytes) part)) (acting_all now items) a c d to_items acted
-    in going_as now 30 30 (λ part. ending now (acting_all now items (rising now (calling now (Receives bytes) part)))) (hearing now bytes) a _ (omega arith)
-    (λ calls done. ap (λ is. seen (ending now (acting_all now is (rising now (calling now (Receives bytes) (part_at a calls done)))))) (sym items-are))
+    in going_as now 30 30 (λ part. ending (acting_all now items (rising now (calling now (Receives bytes) part)))) (hearing now bytes) a _ (omega arith)
+    (λ calls done. ap (λ is. seen (ending (acting_all now is (rising now (calling now (Receives bytes) (part_at a calls done)))))) (sym items-are))
     (falls now 30 (λ part. acting_all now items (rising now (calling now (Receives bytes) part))) a d new all is)
 
 pub from_none : (now most : ℕ) (does : ClientSoFar → ClientSoFar) (client : ClientState) (box : OutboxState) (heard : List Indication) (b : Seen) → heard ≡ [] →
@@ -117,33 +116,21 @@ from_none now most does client box heard b none way = subst (λ (h : List Indica
 
 pub commands : (now : ℕ) (command : Command) (next : Stage) (told : Message) (a : Seen) (old staged_at new : ClientState) (box : OutboxState) (heard : List Indication) →
     next ≡ stage_after_command command a.client.stage → told ≡ message_of command →
-    Goes now 2 (posting now told) a (record { client = old; outbox = box; heard = heard }) → staged_at ≡ record old { stage = next } → new ≡ watched now (fallen staged_at) →
+    Goes now 2 (posting now told) a (record { client = old; outbox = box; heard = heard }) → staged_at ≡ record old { stage = next } → new ≡ fallen staged_at →
     Goes now 2 (commanding now command) a (record { client = new; outbox = box; heard = heard })
 unfolding commanding
 commands now command next told a old staged_at new box heard next-is told-is posted staged-is is =
     let to_stage = staged now 2 (posting now told) next a old staged_at box heard posted staged-is
-    in going_as now 2 2 (λ part. ending now (at_stage next (posting now told part))) (commanding now command) a _ (omega arith)
-    (λ calls done. ap (λ n. seen (ending now (at_stage n (posting now (message_of command) (part_at a calls done))))) (sym next-is)
-    ∙ ap (λ m. seen (ending now (at_stage next (posting now m (part_at a calls done))))) (sym told-is))
+    in going_as now 2 2 (λ part. ending (at_stage next (posting now told part))) (commanding now command) a _ (omega arith)
+    (λ calls done. ap (λ n. seen (ending (at_stage n (posting now (message_of command) (part_at a calls done))))) (sym next-is)
+    ∙ ap (λ m. seen (ending (at_stage next (posting now m (part_at a calls done))))) (sym told-is))
     (falls now 2 (λ part. at_stage next (posting now told part)) a _ new to_stage is)
 
-pub ticks : (now : ℕ) (a b c : Seen) (new : ClientState) → Goes now 1 (calling now Ticks) a b → Goes now 1 (calling now Opens) b c → new ≡ watched now (fallen c.client) →
+pub ticks : (now : ℕ) (a b c : Seen) (new : ClientState) → Goes now 1 (calling now Ticks) a b → Goes now 1 (calling now Opens) b c → new ≡ fallen c.client →
     Goes now 2 (ticking now) a (record { client = new; outbox = c.outbox; heard = c.heard })
 unfolding ticking
 ticks now a b c new ticked opened is =
     falls now 2 (λ part. calling now Opens (calling now Ticks part)) a c new (going_then now 1 1 (calling now Ticks) (calling now Opens) a b c ticked opened) is
-
--- a link that isn't caught up any more closes, and any other is left
-pub closes_behind : (now : ℕ) (a b : Seen) (new : ClientState) → Goes now 1 (calling now (Closes reason.User)) a b → new ≡ watched now (fallen b.client) → is_behind now a.client ≡ true →
-    Goes now 1 (closing_behind now) a (record { client = new; outbox = b.outbox; heard = b.heard })
-unfolding closing_behind
-closes_behind now a b new closed is behind =
-    going_as now 1 1 (λ part. ending now (calling now (Closes reason.User) part)) (closing_behind now) a _ (omega arith) (λ calls acted. rw behind refl)
-    (falls now 1 (calling now (Closes reason.User)) a b new closed is)
-
-pub not_behind : (now : ℕ) (a : Seen) → a.client.link.clock ≡ now → is_behind now a.client ≡ false → Goes now 1 (closing_behind now) a a
-unfolding closing_behind
-not_behind now a at caught = going_as now 0 1 (λ part. part) (closing_behind now) a a (omega arith) (λ calls acted. rw caught refl) (going_nowhere now a at)
 
 -- the same client by another name
 pub from_same : (now most : ℕ) (does : ClientSoFar → ClientSoFar) (client same : ClientState) (box : OutboxState) (heard : List Indication) (b : Seen) → client ≡ same →

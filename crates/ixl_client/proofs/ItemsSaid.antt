@@ -20,7 +20,7 @@ use Rattle.rasta_core.specs.reason.Reason.TheVariants as reason
 use Rattle.ixl_client.specs.Client.{ClientState, PeerState, is_outside}
 use Rattle.ixl_client.specs.Meaning.{meaning, meaning_of, initial_meaning, is_for_client, is_in_turn, is_in_version, is_match, place_of, report_meaning, state_in}
 use Rattle.ixl_client.specs.ClientSoFar.{Closes, LinkCall, Opens, ClientSoFar, Receives, Sends, Ticks, calling}
-use Rattle.ixl_client.specs.Step.{acted_on, acting, acting_all, at_stage, clocked, closing_behind, commanding, is_behind, meaning_of_item, ending, fallen, following, hearing, is_refused_by_window, message_of, posting, rising, saying, stage_after_command, stage_after_report, telegram_to, ticking, watched}
+use Rattle.ixl_client.specs.Step.{acted_on, acting, acting_all, at_stage, clocked, commanding, meaning_of_item, ending, fallen, following, hearing, is_refused_by_window, message_of, posting, rising, saying, stage_after_command, stage_after_report, telegram_to, ticking}
 use Rattle.ixl_client.specs.declared.command.Command.{Command}
 use Rattle.ixl_client.specs.declared.command.Command.TheVariants as commands
 use Rattle.ixl_client.specs.declared.indication.ObjectState.{ObjectState}
@@ -261,13 +261,13 @@ inside_stays client = cases (is_up client.link.phase) where
 said_of : (a b : ClientState) → b.peer ≡ a.peer → items_said b ≡ said_at a.peer b.stage
 said_of a b peer = ap (λ (p : PeerState). said_at p b.stage) peer
 
-ended_says : (now : ℕ) (a b : ClientSoFar) → Says a b → SaysInOrder a (ending now b)
-ended_says now a b says = record {
+ended_says : (a b : ClientSoFar) → Says a b → SaysInOrder a (ending b)
+ended_says a b says = record {
   calls = says.calls;
   made = says.made;
   said = λ inside.
       let stays = inside_stays b.client inside
-      in said_of a.client (watched now (fallen b.client)) (stays.1 ∙ says.peer) ∙ ap (said_at a.client.peer) stays.0 ∙ says.said;
+      in said_of a.client (fallen b.client) (stays.1 ∙ says.peer) ∙ ap (said_at a.client.peer) stays.0 ∙ says.said;
 }
 
 pub hearing_says : (now : ℕ) (bytes : List ℕ) (a : ClientSoFar) → SaysInOrder a (hearing now bytes a)
@@ -277,7 +277,7 @@ hearing_says now bytes a =
     in let items = (receiving now bytes a.client.link).items
     in let risen : ClientSoFar = rising now received
     in let done : ClientSoFar = acting_all now items risen
-    in ended_says now a done (says_then a received done (says_close (Receives bytes) a received refl refl refl refl)
+    in ended_says a done (says_then a received done (says_close (Receives bytes) a received refl refl refl refl)
     (says_then received risen done (rising_says now received) (all_say now items risen)))
 
 same_said : (peer : PeerState) (command : Command) (s : Stage) → said_at peer (stage_after_command command s) ≡ said_at peer s
@@ -300,7 +300,7 @@ commanding_says now command a =
       sent = posts.sent;
       said = λ inside.
           let stays = inside_stays done.client inside
-          in said_of a.client (watched now (fallen done.client)) (stays.1 ∙ posts.peer) ∙ ap (said_at a.client.peer) stays.0 ∙ same_said a.client.peer command a.client.stage;
+          in said_of a.client (fallen done.client) (stays.1 ∙ posts.peer) ∙ ap (said_at a.client.peer) stays.0 ∙ same_said a.client.peer command a.client.stage;
     }
 
 pub ticking_says : (now : ℕ) (a : ClientSoFar) → SaysNothing a (ticking now a)
@@ -312,7 +312,7 @@ ticking_says now a = record {
   said = λ inside.
       let done : ClientSoFar = calling now Opens (calling now Ticks a)
       in let stays = inside_stays done.client inside
-      in said_of a.client (watched now (fallen done.client)) stays.1 ∙ ap (said_at a.client.peer) stays.0;
+      in said_of a.client (fallen done.client) stays.1 ∙ ap (said_at a.client.peer) stays.0;
 }
 
 pub clock_keeps : (now : ℕ) (client : ClientState) → KeepsWhatWasSaid client (clocked now client)
@@ -320,21 +320,4 @@ unfolding clocked
 clock_keeps now client inside =
     let later : ClientState = record client { link = settled now client.link }
     in let stays = inside_stays later inside
-    in said_of client (watched now (fallen later)) stays.1 ∙ ap (said_at client.peer) stays.0
-
-pub behind_says : (now : ℕ) (a : ClientSoFar) → SaysNothing a (closing_behind now a)
-unfolding closing_behind calling items_sent
-behind_says now a = cases (is_behind now a.client) where
-  done : ClientSoFar
-  done = calling now (Closes reason.User) a
-
-  cases : (b : Bool) → SaysNothing a (if b then ending now done else a)
-  cases true = record {
-    calls = Closes reason.User ∷ [];
-    made = refl;
-    sent = refl;
-    said = λ inside.
-        let stays = inside_stays done.client inside
-        in said_of a.client (watched now (fallen done.client)) stays.1 ∙ ap (said_at a.client.peer) stays.0;
-  }
-  cases false = record { calls = []; made = sym (append-nil a.calls); sent = refl; said = λ inside. refl }
+    in said_of client (fallen later) stays.1 ∙ ap (said_at client.peer) stays.0

@@ -2,7 +2,6 @@ pub mod PartsFollow
 pub mod ItemActions
 pub mod Steady
 pub mod Made
-pub mod Behind
 pub mod Acts
 pub mod Partner
 pub mod LinkClosed

@@ -26,7 +26,7 @@ closing_closes why link = cases (is_told why) where
   cases true = refl
   cases false = refl
 
-pub closes : (now : ℕ) (why : Reason) (link : LinkState) → is_open (closing_by now why link).link.phase ≡ false
+closes : (now : ℕ) (why : Reason) (link : LinkState) → is_open (closing_by now why link).link.phase ≡ false
 unfolding closing_by
 closes now why link = cases (is_open (entered now link).link.phase) refl where
   cases : (b : Bool) → is_open (entered now link).link.phase ≡ b → is_open (if b then closing why (entered now link).link else silent (entered now link).link).link.phase ≡ false
@@ -47,7 +47,7 @@ fallen_link client = cases (is_up client.link.phase) where
   cases true = refl
   cases false = refl
 
-pub fallen_outside : (client : ClientState) → is_up client.link.phase ≡ false → is_outside (fallen client).stage ≡ true
+fallen_outside : (client : ClientState) → is_up client.link.phase ≡ false → is_outside (fallen client).stage ≡ true
 unfolding fallen
 fallen_outside client is = ap (λ b. is_outside (if b then client else record client { stage = stage.Outside }).stage) is
 

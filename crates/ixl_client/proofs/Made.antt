@@ -9,11 +9,12 @@ use Rattle.sci_telegram.specs.declared.message.Message.{Message}
 use Rattle.rasta_core.specs.Calls.{answer_to_send, receiving}
 use Rattle.rasta_core.specs.Outbox.{OutboxState, posted}
 use Rattle.rasta_core.specs.State.{LinkState, is_open, is_up}
+use Rattle.rasta_core.specs.reason.Reason.{Reason}
 use Rattle.rasta_core.specs.reason.Reason.TheVariants as reason
-use Rattle.ixl_client.specs.Client.{is_outside}
+use Rattle.ixl_client.specs.Client.{ClientState, is_outside}
 use Rattle.ixl_client.specs.Made.{AreOwn, IsOwn, Makes, MakesAfterReceipt, MakesOwn, link_after, outbox_after}
 use Rattle.ixl_client.specs.ClientSoFar.{Closes, LinkCall, Opens, ClientSoFar, Receives, Sends, Ticks, call_made, calling}
-use Rattle.ixl_client.specs.Step.{acted_on, acting, acting_all, at_stage, closing_behind, commanding, is_behind, meaning_of_item, ending, following, hearing, is_refused_by_window, message_of, posting, rising, saying, stage_after_command, telegram_to, ticking}
+use Rattle.ixl_client.specs.Step.{acted_on, acting, acting_all, at_stage, commanding, meaning_of_item, ending, fallen, following, hearing, is_refused_by_window, message_of, posting, rising, saying, stage_after_command, telegram_to, ticking}
 use Rattle.ixl_client.specs.declared.command.Command.{Command}
 use Rattle.ixl_client.specs.declared.meaning.Meaning.{Meaning}
 use Rattle.ixl_client.specs.declared.meaning.Meaning.TheVariants as meanings
@@ -106,32 +107,22 @@ acting_own now (item ∷ others) a = cases (is_open a.client.link.phase) (acting
   cases true next = own_then now a (acting now item a) (acting_all now others (acting now item a)) (following_own now item meaning a) next
   cases false next = own_none now a a refl refl refl
 
-ending_own : (now : ℕ) (a : ClientSoFar) → MakesOwn now a (ending now a)
-ending_own now a = own_none now a (ending now a) refl (fallen_link a.client) refl
+ending_own : (now : ℕ) (a : ClientSoFar) → MakesOwn now a (ending a)
+ending_own now a = own_none now a (ending a) refl (fallen_link a.client) refl
 
 pub commanding_own : (now : ℕ) (command : Command) (a : ClientSoFar) → MakesOwn now a (commanding now command a)
 unfolding commanding
 commanding_own now command a =
     let told : ClientSoFar = posting now (message_of command) a
     in let done : ClientSoFar = at_stage (stage_after_command command a.client.stage) told
-    in own_then now a told (ending now done) (posting_own now (message_of command) a) (own_then now told done (ending now done) (own_none now told done refl refl refl) (ending_own now done))
+    in own_then now a told (ending done) (posting_own now (message_of command) a) (own_then now told done (ending done) (own_none now told done refl refl refl) (ending_own now done))
 
 pub ticking_own : (now : ℕ) (a : ClientSoFar) → MakesOwn now a (ticking now a)
 unfolding ticking
 ticking_own now a =
     let beaten : ClientSoFar = calling now Ticks a
     in let done : ClientSoFar = calling now Opens beaten
-    in own_then now a beaten (ending now done) (own_call now Ticks a tt) (own_then now beaten done (ending now done) (own_call now Opens beaten tt) (ending_own now done))
-
-pub behind_own : (now : ℕ) (a : ClientSoFar) → MakesOwn now a (closing_behind now a)
-unfolding closing_behind
-behind_own now a = cases (is_behind now a.client) where
-  closed : ClientSoFar
-  closed = calling now (Closes reason.User) a
-
-  cases : (b : Bool) → MakesOwn now a (if b then ending now closed else a)
-  cases true = own_then now a closed (ending now closed) (own_call now (Closes reason.User) a tt) (ending_own now closed)
-  cases false = own_none now a a refl refl refl
+    in own_then now a beaten (ending done) (own_call now Ticks a tt) (own_then now beaten done (ending done) (own_call now Opens beaten tt) (ending_own now done))
 
 pub hearing_made : (now : ℕ) (bytes : List ℕ) (a : ClientSoFar) → MakesAfterReceipt now bytes a (hearing now bytes a)
 unfolding hearing
@@ -140,5 +131,5 @@ hearing_made now bytes a =
     in let items = (receiving now bytes a.client.link).items
     in let risen : ClientSoFar = rising now received
     in let done : ClientSoFar = acting_all now items risen
-    in let rest = own_then now received risen (ending now done) (rising_own now received) (own_then now risen done (ending now done) (acting_own now items risen) (ending_own now done))
-    in (rest.0, makes_then now (Receives bytes ∷ []) rest.0 a received (ending now done) (makes_call now (Receives bytes) a) rest.1, rest.2)
+    in let rest = own_then now received risen (ending done) (rising_own now received) (own_then now risen done (ending done) (acting_own now items risen) (ending_own now done))
+    in (rest.0, makes_then now (Receives bytes ∷ []) rest.0 a received (ending done) (makes_call now (Receives bytes) a) rest.1, rest.2)

@@ -3,10 +3,9 @@ use Rattle.std.proofs.Common.{◌≡◌, ℕ, Bool, true, false, if◌then◌els
 use Rattle.std.specs.Prelude.{◌&&◌}
 use Rattle.sci_telegram.specs.declared.message.Initialisation.TheVariants.{VersionCheck}
 use Rattle.rasta_core.specs.State.{is_open, is_up}
-use Rattle.rasta_core.specs.reason.Reason.TheVariants as reason
 use Rattle.ixl_client.specs.Client.{ClientState, is_outside}
-use Rattle.ixl_client.specs.ClientSoFar.{ClientSoFar, Closes, calling}
-use Rattle.ixl_client.specs.Step.{acting, acting_all, at_stage, clocked, closing_behind, commanding, ending, fallen, hearing, is_behind, rising, saying, ticking}
+use Rattle.ixl_client.specs.ClientSoFar.{ClientSoFar, calling}
+use Rattle.ixl_client.specs.Step.{acting, acting_all, at_stage, clocked, commanding, fallen, hearing, rising, saying, ticking}
 use Rattle.ixl_client.specs.declared.command.Command.{Command}
 use Rattle.ixl_client.specs.declared.stage.Stage.TheVariants as stage
 use Rattle.ixl_client.proofs.Acts.{acting_peer, posting_peer}
@@ -48,10 +47,3 @@ commanding_peer now command a = fallen_peer _ ∙ posting_peer now _ a
 pub ticking_peer : (now : ℕ) (a : ClientSoFar) → (ticking now a).client.peer ≡ a.client.peer
 unfolding ticking calling
 ticking_peer now a = fallen_peer _
-
-pub behind_peer : (now : ℕ) (a : ClientSoFar) → (closing_behind now a).client.peer ≡ a.client.peer
-unfolding closing_behind calling
-behind_peer now a = cases (is_behind now a.client) where
-  cases : (b : Bool) → (if b then ending now (calling now (Closes reason.User) a) else a).client.peer ≡ a.client.peer
-  cases true = fallen_peer _
-  cases false = refl

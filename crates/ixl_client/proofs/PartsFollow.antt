@@ -6,7 +6,7 @@ use Rattle.rasta_core.specs.State.{is_up}
 use Rattle.ixl_client.specs.declared.meaning.Meaning.{Meaning}
 use Rattle.ixl_client.specs.declared.meaning.Meaning.TheVariants as meanings
 use Rattle.ixl_client.specs.declared.stage.Stage.TheVariants as stage
-use Rattle.std.proofs.Common.{◌≡◌, ℕ, ◌+◌, ◌≤◌, true, false, List, [], ◌∷◌, ◌++◌, length, arith, refl, ap, sym, ◌∙◌, subst}
+use Rattle.std.proofs.Common.{◌≡◌, ℕ, ◌+◌, ◌≤◌, Bool, true, false, List, [], ◌∷◌, ◌++◌, length, arith, refl, ap, sym, ◌∙◌, subst}
 use Rattle.std.proofs.lemmas.List.{length-append, length-map}
 use Rattle.rasta_core.specs.Calls.{IsAt}
 use Rattle.rasta_core.specs.Outbox.{OutboxState, posted}
@@ -62,16 +62,14 @@ called now most call old new box out heard is at posts few = record {
 }
 
 -- a call of the link of a client with these parts
-pub called_in : {until : ℕ} (now most : ℕ) (call : LinkCall) (old : ClientState) (link : LinkState) (stage : Stage) (peer : PeerState) (new : LinkState) (box out : OutboxState) (heard : List Indication) →
-    record { link = link; caught_up_until = until; stage = stage; peer = peer } ≡ old → new ≡ (call_made now call link).link → IsAt now link (call_made now call link).link →
+pub called_in : (now most : ℕ) (call : LinkCall) (old : ClientState) (link : LinkState) (stage : Stage) (peer : PeerState) (new : LinkState) (box out : OutboxState) (heard : List Indication) →
+    record { link = link; stage = stage; peer = peer } ≡ old → new ≡ (call_made now call link).link → IsAt now link (call_made now call link).link →
     out ≡ posted link.identity.key (call_made now call link).pdus box → length (call_made now call link).pdus ≤ most →
-    Goes now most (calling now call) (record { client = old; outbox = box; heard = heard })
-    (record { client = record { link = new; caught_up_until = until; stage = stage; peer = peer }; outbox = out; heard = heard })
-called_in {until} now most call old link stage peer new box out heard old-is is at posts few =
-    subst (λ (o : ClientState). Goes now most (calling now call) (record { client = o; outbox = box; heard = heard })
-    (record { client = record { link = new; caught_up_until = until; stage = stage; peer = peer }; outbox = out; heard = heard })) old-is
-    (called now most call (record { link = link; caught_up_until = until; stage = stage; peer = peer }) (record { link = new; caught_up_until = until; stage = stage; peer = peer }) box out heard
-    (ap (λ (l : LinkState). record { link = l; caught_up_until = until; stage = stage; peer = peer }) is) at posts few)
+    Goes now most (calling now call) (record { client = old; outbox = box; heard = heard }) (record { client = record { link = new; stage = stage; peer = peer }; outbox = out; heard = heard })
+called_in now most call old link stage peer new box out heard old-is is at posts few =
+    subst (λ (o : ClientState). Goes now most (calling now call) (record { client = o; outbox = box; heard = heard }) (record { client = record { link = new; stage = stage; peer = peer }; outbox = out; heard = heard })) old-is
+    (called now most call (record { link = link; stage = stage; peer = peer }) (record { link = new; stage = stage; peer = peer }) box out heard
+    (ap (λ (l : LinkState). record { link = l; stage = stage; peer = peer }) is) at posts few)
 
 -- one after another
 pub going_then : (now some more : ℕ) (first second : ClientSoFar → ClientSoFar) (a b c : Seen) → Goes now some first a b → Goes now more second b c →

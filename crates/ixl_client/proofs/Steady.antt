@@ -9,7 +9,7 @@ use Rattle.sci_telegram.specs.declared.message.Initialisation.TheVariants.{Versi
 use Rattle.rasta_core.specs.State.{LinkState, is_client, is_open, is_up}
 use Rattle.rasta_core.specs.Clock.{deadline, settled}
 use Rattle.rasta_core.specs.Parameters.{connection_limit}
-use Rattle.rasta_core.specs.PdusHandedOut.{beating, closing, entered, giving, is_told, limited, sending, silent, telling}
+use Rattle.rasta_core.specs.PdusHandedOut.{Step, beating, closing, entered, giving, is_told, limited, sending, silent, telling}
 use Rattle.rasta_core.specs.Establishment.{beginning, may_open, requesting}
 use Rattle.rasta_core.specs.Calls.{IsAt, acceptance, answer_to_send, closing_by, created, opening, receiving, sending_item, ticking as beats}
 use Rattle.rasta_core.specs.phase.Phase.{Phase}
@@ -19,7 +19,7 @@ use Rattle.rasta_core.specs.reason.Reason.{Reason}
 use Rattle.rasta_core.specs.reason.Reason.TheVariants as reason
 use Rattle.ixl_client.specs.Client.{ClientState, IsClient, PeerState, is_outside}
 use Rattle.ixl_client.specs.ClientSoFar.{Closes, Opens, ClientSoFar, Receives, Seen, Sends, Ticks, calling}
-use Rattle.ixl_client.specs.Step.{acting, acting_all, at_stage, clocked, closing_behind, commanding, is_behind, meaning_of_item, ending, fallen, following, hearing, is_refused_by_window, message_of, posting, rising, saying, stage_after_command, stage_after_report, telegram_to, ticking}
+use Rattle.ixl_client.specs.Step.{acted_on, acting, acting_all, at_stage, clocked, commanding, meaning_of_item, ending, fallen, following, hearing, is_refused_by_window, message_of, posting, rising, saying, stage_after_command, stage_after_report, telegram_to, ticking}
 use Rattle.ixl_client.specs.Way.{Goes}
 use Rattle.ixl_client.specs.declared.command.Command.{Command}
 use Rattle.ixl_client.specs.declared.command.Command.TheVariants as commands
@@ -214,16 +214,6 @@ ticking_rests now part is = outside_where_down _ (stays is) where
   stays (inl inside) = inl inside
   stays (inr down) = inr (opens_down now (beats now part.client.link).link (beats_down now part.client.link down))
 
-pub behind_rests : (now : ℕ) (part : ClientSoFar) → Rests part → Rests (closing_behind now part)
-unfolding closing_behind calling
-behind_rests now part rests = cases (is_behind now part.client) where
-  closed : ClientSoFar
-  closed = calling now (Closes reason.User) part
-
-  cases : (b : Bool) → Rests (if b then ending now closed else part)
-  cases true = outside_where_down closed.client (inr (closes_down now reason.User part.client.link))
-  cases false = rests
-
 pub clocked_rests : (now : ℕ) (client : ClientState) → IsClient client → is_outside (clocked now client).stage ≡ not (is_up (clocked now client).link.phase)
 unfolding clocked
 clocked_rests now client is = outside_where_down _ (stays (steady client is)) where
@@ -241,29 +231,18 @@ keeps now most does before after way is rests =
       opens = ap (λ i. is_client i.role) way.identity ∙ is.opens;
     }
 
--- and of a part that keeps what it finds so
-pub keeps_held : (now most : ℕ) (does : ClientSoFar → ClientSoFar) (before after : Seen) → Goes now most does before after → IsClient before.client →
-    ((part : ClientSoFar) → Rests part → Rests (does part)) → IsClient after.client
-keeps_held now most does before after way is rests =
-    let part : ClientSoFar = record { client = before.client; outbox = before.outbox; heard = before.heard; calls = []; acted = [] }
-    in let same : (does part).client ≡ after.client = ap (λ (v : Seen). v.client) (way.leads part refl)
-    in record {
-      outside = subst (λ (c : ClientState). is_outside c.stage ≡ not (is_up c.link.phase)) same (rests part is.outside);
-      opens = ap (λ i. is_client i.role) way.identity ∙ is.opens;
-    }
-
 pub clocked_client : (now : ℕ) (old new : ClientState) → new ≡ clocked now old → IsAt now old.link new.link → IsClient old → IsClient new
 clocked_client now old new is at held = record {
   outside = subst (λ (c : ClientState). is_outside c.stage ≡ not (is_up c.link.phase)) (sym is) (clocked_rests now old held);
   opens = ap (λ i. is_client i.role) at.identity ∙ held.opens;
 }
 
-created_client : (identity : Identity) (first_sequence_number now moment : ℕ) (peer : PeerState) → is_client identity.role ≡ true →
-    IsClient (record { link = created identity first_sequence_number now; caught_up_until = moment; stage = stage.Outside; peer = peer })
+created_client : (identity : Identity) (first_sequence_number now : ℕ) (peer : PeerState) → is_client identity.role ≡ true →
+    IsClient (record { link = created identity first_sequence_number now; stage = stage.Outside; peer = peer })
 unfolding created
-created_client identity first_sequence_number now moment peer opens = record { outside = refl; opens = opens }
+created_client identity first_sequence_number now peer opens = record { outside = refl; opens = opens }
 
-pub made_client : (identity : Identity) (first_sequence_number now moment : ℕ) (peer : PeerState) (link : LinkState) → is_client identity.role ≡ true →
-    link ≡ created identity first_sequence_number now → IsClient (record { link = link; caught_up_until = moment; stage = stage.Outside; peer = peer })
-made_client identity first_sequence_number now moment peer link opens is =
-    subst (λ l. IsClient (record { link = l; caught_up_until = moment; stage = stage.Outside; peer = peer })) (sym is) (created_client identity first_sequence_number now moment peer opens)
+pub made_client : (identity : Identity) (first_sequence_number now : ℕ) (peer : PeerState) (link : LinkState) → is_client identity.role ≡ true →
+    link ≡ created identity first_sequence_number now → IsClient (record { link = link; stage = stage.Outside; peer = peer })
+made_client identity first_sequence_number now peer link opens is =
+    subst (λ l. IsClient (record { link = l; stage = stage.Outside; peer = peer })) (sym is) (created_client identity first_sequence_number now peer opens)

@@ -1,7 +1,6 @@
 -- The client's end of the link to one controller: the link, and how far the initialisation of its connection has come.
-use Rattle.std.specs.Prelude.{◌≡◌, ℕ, not, Bool, true, false, List}
+use Rattle.std.specs.Prelude.{◌≡◌, ℕ, ◌≤◌, not, Bool, true, false, List, [], length}
 use Rattle.sci_telegram.specs.declared.message.Protocol.{Protocol}
-use Rattle.rasta_core.specs.Clock.{alive_until}
 use Rattle.rasta_core.specs.State.{LinkState, is_up, is_client}
 use Rattle.rasta_core.specs.Calls.{created}
 use Rattle.rasta_core.specs.identity.Identity.{Identity}
@@ -19,13 +18,9 @@ pub record PeerState : Type 0 where
   -- the objects that the controller tells of, by the names of their telegrams' senders, in the order of the initial
   -- status: the sections of a detector, and else the controller itself
   pub objects : List (List ℕ)
-  -- the station keeps trains apart: a link that isn't caught up any more closes
-  pub is_strict : Bool
 
 pub record ClientState : Type 0 where
   pub link : LinkState
-  -- until when the link is caught up: a reading of its clock
-  pub caught_up_until : ℕ
   pub stage : Stage
   pub peer : PeerState
 
@@ -54,7 +49,6 @@ pub record IsClient (client : ClientState) : Type 0 where
 unfoldable pub new_client : Identity → PeerState → ℕ → ℕ → ClientState
 new_client identity peer first_sequence_number now = record {
   link = created identity first_sequence_number now;
-  caught_up_until = alive_until (created identity first_sequence_number now);
   stage = stage.Outside;
   peer = peer;
 }

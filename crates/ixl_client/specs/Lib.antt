@@ -2,7 +2,6 @@ pub mod Client
 pub mod Meaning
 pub mod ClientSoFar
 pub mod Step
-pub mod Strict
 pub mod Way
 pub mod Made
 pub mod LinkClosed

@@ -1,5 +1,5 @@
 -- What a client does in a step, as a list of calls of its link, and which items it acts on.
-use Rattle.std.specs.Prelude.{◌≡◌, ℕ, true, List, [], ◌∷◌, ◌++◌, Option, Some, Result, Ok, Err}
+use Rattle.std.specs.Prelude.{◌≡◌, ℕ, true, false, List, [], ◌∷◌, ◌++◌, Option, Some, None, Result, Ok, Err}
 use Rattle.sci_telegram.specs.TelegramRead.{reading}
 use Rattle.sci_telegram.specs.declared.fault.SciFault.{SciFault}
 use Rattle.sci_telegram.specs.declared.telegram.Telegram.{Telegram}

@@ -1,6 +1,6 @@
 -- What a telegram of the controller is to its connection, by the order of the initialisation: version answer, start, the
 -- state of each object, completed, and then reports. The protocol is this project's own, in the manner of EULYNX.
-use Rattle.std.specs.Prelude.{ℕ, ◌-◌, ◌==◌, nat_le, ◌&&◌, Bool, true, false, List, Option, Some, None, length, if◌then◌else◌}
+use Rattle.std.specs.Prelude.{ℕ, ◌-◌, ◌==◌, nat_le, ◌&&◌, not, Bool, true, false, List, Option, Some, None, length, if◌then◌else◌}
 use Rattle.std.specs.List.{position}
 use Rattle.std.specs.Str.{bytes_eq}
 use Rattle.sci_telegram.specs.Messages.{protocol_of}

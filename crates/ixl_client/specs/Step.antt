@@ -1,5 +1,5 @@
 -- What a client does in a step: with the clock, with a datagram, with a command, on a tick.
-use Rattle.std.specs.Prelude.{ℕ, ◌-◌, nat_le, length, ◌&&◌, Bool, true, false, List, [], ◌∷◌, ◌++◌, Result, Ok, Err, if◌then◌else◌}
+use Rattle.std.specs.Prelude.{ℕ, ◌-◌, length, ◌&&◌, not, Bool, true, false, List, [], ◌∷◌, ◌++◌, Result, Ok, Err, if◌then◌else◌}
 use Rattle.sci_telegram.specs.TelegramRead.{reading}
 use Rattle.sci_telegram.specs.Telegrams.{writing}
 use Rattle.sci_telegram.specs.declared.fault.SciFault.{SciFault}
@@ -12,10 +12,9 @@ use Rattle.sci_telegram.specs.declared.message.SignalMessage.TheVariants.{Indica
 use Rattle.sci_telegram.specs.declared.telegram.Telegram.{Telegram}
 use Rattle.rasta_core.specs.State.{is_open, is_up}
 use Rattle.rasta_core.specs.Clock.{settled}
-use Rattle.rasta_core.specs.Calls.{answer_to_send, closing_by, receiving}
-use Rattle.rasta_core.specs.CaughtUp.{caught_up}
+use Rattle.rasta_core.specs.Calls.{answer_to_send, receiving}
 use Rattle.rasta_core.specs.fault.SendFault.{SendFault}
-use Rattle.rasta_core.specs.fault.SendFault.TheVariants.{WindowFull}
+use Rattle.rasta_core.specs.fault.SendFault.TheVariants.{NotUp, WindowFull}
 use Rattle.rasta_core.specs.reason.Reason.TheVariants as reason
 use Rattle.ixl_client.specs.Client.{PeerState, ClientState, is_outside}
 use Rattle.ixl_client.specs.Meaning.{meaning}
@@ -36,12 +35,8 @@ at_stage stage part = record part { client = record part.client { stage = stage 
 unfoldable pub fallen : ClientState → ClientState
 fallen client = if is_up client.link.phase then client else record client { stage = stage.Outside }
 
--- what is kept of how long its link is caught up, by the link as it is now: once the clock has acted, and at the end of each part
-abbrev pub watched : ℕ → ClientState → ClientState
-watched now client = record client { caught_up_until = caught_up now client.caught_up_until client.link }
-
-abbrev pub ending : ℕ → ClientSoFar → ClientSoFar
-ending now part = record part { client = watched now (fallen part.client) }
+abbrev pub ending : ClientSoFar → ClientSoFar
+ending part = record part { client = fallen part.client }
 
 -- ---- what is sent
 
@@ -107,26 +102,13 @@ acting_all now (item ∷ others) part =
 
 -- the clock
 unfoldable pub clocked : ℕ → ClientState → ClientState
-clocked now client = watched now (fallen (record client { link = settled now client.link }))
-
--- the client of a station that keeps trains apart: its link is up, and isn't caught up any more
-abbrev pub is_behind : ℕ → ClientState → Bool
-is_behind now client = client.peer.is_strict && is_up client.link.phase && nat_le client.caught_up_until now
-
--- such a link closes, behind the clock and before anything else
-unfoldable pub closing_behind : ℕ → ClientSoFar → ClientSoFar
-closing_behind now part = if is_behind now part.client then ending now (calling now (Closes reason.User) part) else part
-
--- what that makes of the client
-unfoldable pub closed_behind : ℕ → ClientState → ClientState
-closed_behind now client =
-    if is_behind now client then watched now (fallen (record client { link = (closing_by now reason.User client.link).link })) else client
+clocked now client = fallen (record client { link = settled now client.link })
 
 -- a datagram
 unfoldable pub hearing : ℕ → List ℕ → ClientSoFar → ClientSoFar
 hearing now bytes part =
     let items = (receiving now bytes part.client.link).items
-    in ending now (acting_all now items (rising now (calling now (Receives bytes) part)))
+    in ending (acting_all now items (rising now (calling now (Receives bytes) part)))
 
 -- a command
 abbrev pub message_of : Command → Message
@@ -140,8 +122,8 @@ stage_after_command _ stage = stage
 
 unfoldable pub commanding : ℕ → Command → ClientSoFar → ClientSoFar
 commanding now command part =
-    ending now (at_stage (stage_after_command command part.client.stage) (posting now (message_of command) part))
+    ending (at_stage (stage_after_command command part.client.stage) (posting now (message_of command) part))
 
 -- a tick: the heartbeat that is due, and a link that is down is opened
 unfoldable pub ticking : ℕ → ClientSoFar → ClientSoFar
-ticking now part = ending now (calling now Opens (calling now Ticks part))
+ticking now part = ending (calling now Opens (calling now Ticks part))

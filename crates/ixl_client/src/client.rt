@@ -6,7 +6,7 @@ ghost use Rattle.rasta_core.specs.Outbox.{HasRoomFor};
 ghost use Rattle.rasta_core.specs.State.{is_up};
 ghost use Rattle.rasta_core.specs.identity.Role.TheVariants as role;
 ghost use Rattle.ixl_client.specs.ClientSoFar.{Seen};
-ghost use Rattle.ixl_client.specs.Step.{clocked, closing_behind, commanding, hearing, ticking};
+ghost use Rattle.ixl_client.specs.Step.{clocked, commanding, hearing, ticking};
 ghost use Rattle.ixl_client.specs.Way.{Goes};
 ghost use Rattle.ixl_client.specs.declared.indication.Indication.{Indication};
 
@@ -64,15 +64,9 @@ impl Client {
             now,
         } = start;
         let link = Link::client(alloc, own, partner, key, first_sequence_number, now)?;
-        let caught_up_until = link.alive_until();
         let stage = Stage::Outside;
         Ok(Client {
-            end: End {
-                link,
-                caught_up_until,
-                stage,
-                peer,
-            },
+            end: End { link, stage, peer },
         })
     }
 
@@ -116,15 +110,6 @@ impl Client {
         self.end.settle(now);
     }
 
-    /// And how it goes on: where the station keeps trains apart, a link that isn't caught up any more closes with reason 0.
-    pub fn close_behind(&mut self, now: Millis, outbox: &mut Outbox)
-        requires clock { self.old.link.clock ≡ now }
-        requires room { HasRoomFor 24 outbox.old }
-        ensures { (heard : List Indication) → Goes now 1 (closing_behind now) (record { client = self.old; outbox = outbox.old; heard = heard }) (record { client = self.new; outbox = outbox.new; heard = heard }) }
-    {
-        self.end.close_behind(now, outbox);
-    }
-
     /// A datagram has come. What its items tell of the controller's objects is heard, up to one that closes the link.
     pub fn receive(
         &mut self,
@@ -143,7 +128,7 @@ impl Client {
         let verdict = self.end.receive(now, datagram, outbox, &mut inbox);
         self.end.rise(now, outbox);
         self.end.act_all(now, inbox.as_slice(), outbox, heard);
-        self.end.end(now);
+        self.end.fall();
         verdict
     }
 
@@ -156,7 +141,7 @@ impl Client {
         let next = self.end.stage_after_command(command);
         self.end.post(now, command.message(), outbox);
         self.end.come_to(next);
-        self.end.end(now);
+        self.end.fall();
     }
 
     /// A tick: the heartbeat that is due, and a link that is down is opened.
@@ -167,6 +152,6 @@ impl Client {
     {
         self.end.beat(now, outbox);
         self.end.open(now, outbox);
-        self.end.end(now);
+        self.end.fall();
     }
 }

@@ -4,14 +4,14 @@ ghost use Rattle.std.specs.Prelude.{◌≡◌, List};
 ghost use Rattle.rasta_core.specs.Calls.{MayStep, IsAt};
 ghost use Rattle.rasta_core.specs.Outbox.{HasRoomFor};
 ghost use Rattle.ixl_client.specs.ClientSoFar.{Opens, Ticks, calling};
-ghost use Rattle.ixl_client.specs.Step.{clocked, closing_behind, is_behind, stage_after_command};
+ghost use Rattle.ixl_client.specs.Step.{clocked, stage_after_command};
 ghost use Rattle.ixl_client.specs.Way.{Goes};
 ghost use Rattle.ixl_client.specs.declared.indication.Indication.{Indication};
 
 use crate::command::Command;
 use crate::end::End;
 use crate::stage::Stage;
-use rasta_core::{Millis, Outbox, Reason};
+use rasta_core::{Millis, Outbox};
 
 impl End {
     /// The clock acts.
@@ -22,26 +22,7 @@ impl End {
         ensures kept { IsAt now self.old.link self.new.link }
     {
         self.link.settle(now);
-        self.end(now);
-    }
-
-    /// Whether the station keeps trains apart, and the link is up and isn't caught up any more.
-    fn is_behind(&self, now: Millis) -> bool
-        ensures { result ≡ is_behind now self.now }
-    {
-        self.peer.is_strict && self.link.is_up_now() && self.caught_up_until <= now
-    }
-
-    /// A link that isn't caught up any more closes, where the station keeps trains apart.
-    pub(crate) fn close_behind(&mut self, now: Millis, outbox: &mut Outbox)
-        requires clock { self.old.link.clock ≡ now }
-        requires room { HasRoomFor 24 outbox.old }
-        ensures { (heard : List Indication) → Goes now 1 (closing_behind now) (record { client = self.old; outbox = outbox.old; heard = heard }) (record { client = self.new; outbox = outbox.new; heard = heard }) }
-    {
-        if self.is_behind(now) {
-            self.close(now, Reason::User, outbox);
-            self.end(now);
-        }
+        self.fall();
     }
 
     /// How far the connection has come once a command was sent.

@@ -5,13 +5,13 @@ ghost use Rattle.rasta_core.specs.Calls.{MayStep, answer_to_send};
 ghost use Rattle.rasta_core.specs.Outbox.{HasRoomFor};
 ghost use Rattle.sci_telegram.specs.Telegrams.{writing};
 ghost use Rattle.ixl_client.specs.ClientSoFar.{Closes, Sends, calling};
-ghost use Rattle.ixl_client.specs.Step.{fallen, is_refused_by_window, posting, saying, telegram_to, watched};
+ghost use Rattle.ixl_client.specs.Step.{fallen, is_refused_by_window, posting, saying, telegram_to};
 ghost use Rattle.ixl_client.specs.Way.{Goes};
 ghost use Rattle.ixl_client.specs.declared.indication.Indication.{Indication};
 
 use crate::peer::Peer;
 use crate::stage::Stage;
-use rasta_core::{Link, Millis, Outbox, Reason, SendFault, caught_up_until};
+use rasta_core::{Link, Millis, Outbox, Reason, SendFault};
 use sci_telegram::{Initialisation, Message};
 use std::marker::Model;
 
@@ -19,8 +19,6 @@ use std::marker::Model;
 #[derive(Debug, Drop)]
 pub(crate) struct End {
     pub(crate) link: Link,
-    /// Until when the link is caught up: a reading of its clock.
-    pub(crate) caught_up_until: Millis,
     pub(crate) stage: Stage,
     pub(crate) peer: Peer,
 }
@@ -30,7 +28,7 @@ impl Model for End {
 
     ghost Value = { ClientState };
 
-    ghost view = { λ e. record { link = e.link; caught_up_until = e.caught_up_until; stage = e.stage; peer = e.peer } };
+    ghost view = { λ e. record { link = e.link; stage = e.stage; peer = e.peer } };
 }
 
 fn is_refused_by_window(answer: Result<(), SendFault>) -> bool
@@ -48,21 +46,6 @@ impl End {
         if !self.link.is_up_now() {
             self.stage = Stage::Outside;
         }
-    }
-
-    /// How long the link is caught up, as it is now.
-    fn watch(&mut self, now: Millis)
-        ensures { self.new ≡ watched now self.old }
-    {
-        self.caught_up_until = caught_up_until(&self.link, now, self.caught_up_until);
-    }
-
-    /// How each part of a step ends: where the link isn't up, the client is outside; and how long the link is caught up.
-    pub(crate) fn end(&mut self, now: Millis)
-        ensures { self.new ≡ watched now (fallen self.old) }
-    {
-        self.fall();
-        self.watch(now);
     }
 
     /// The connection has come so far.

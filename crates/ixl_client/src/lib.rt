@@ -18,9 +18,7 @@ mod stage;
 pub use client::Client;
 pub use command::Command;
 pub use indication::{Indication, Indications, ObjectState};
-pub use laws::{
-    step_hears_what_was_taken, step_is_calls, step_keeps_the_peer, who_is_behind_closes,
-};
+pub use laws::{step_hears_what_was_taken, step_is_calls, step_keeps_the_peer};
 pub use peer::Peer;
 pub use protocol::{
     deviations_close_the_link, initialisations_go_out_in_order,

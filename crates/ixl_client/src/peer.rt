@@ -23,8 +23,6 @@ pub struct Peer {
     /// The objects that the controller tells of, by the names of their telegrams' senders, in the order of the initial
     /// status: the sections of a detector, and else the controller itself.
     pub objects: Vec<Name>,
-    /// Whether the station keeps trains apart: a link that isn't caught up any more closes.
-    pub is_strict: bool,
 }
 
 impl Model for Peer {
@@ -32,7 +30,7 @@ impl Model for Peer {
 
     ghost Value = { PeerState };
 
-    ghost view = { λ p. record { protocol = p.protocol; version = p.version; own_name = p.own_name; name = p.name; objects = p.objects.items; is_strict = p.is_strict } };
+    ghost view = { λ p. record { protocol = p.protocol; version = p.version; own_name = p.own_name; name = p.name; objects = p.objects.items } };
 }
 
 impl Peer {

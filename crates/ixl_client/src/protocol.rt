@@ -7,7 +7,7 @@ ghost use Rattle.rasta_core.specs.State.{is_client};
 ghost use Rattle.rasta_core.specs.fault.SendFault.TheVariants.{WindowFull};
 ghost use Rattle.ixl_client.specs.Client.{ClientState};
 ghost use Rattle.ixl_client.specs.ClientSoFar.{ClientSoFar};
-ghost use Rattle.ixl_client.specs.Step.{acting, clocked, closing_behind, commanding, hearing, ticking};
+ghost use Rattle.ixl_client.specs.Step.{acting, clocked, commanding, hearing, ticking};
 ghost use Rattle.ixl_client.specs.declared.command.Command.{Command};
 ghost use Rattle.ixl_client.specs.LinkClosed.{ClosesForWindow, Fate, SendsAlone, telegram_of};
 ghost use Rattle.ixl_client.specs.ExpectedTelegrams.{IsExpected};
@@ -32,13 +32,12 @@ pub fn ticks_open_links_that_are_down()
 
 /// The telegrams of the initialisation go out in their order: the version check where the connection comes up, the request
 /// for the initialisation where the answer agrees, and no other; and so it stands with what was sent in the connection.
-#[tactic(auto, using(crate::proofs::ItemsSaid::hearing_says, crate::proofs::ItemsSaid::commanding_says, crate::proofs::ItemsSaid::ticking_says, crate::proofs::ItemsSaid::clock_keeps, crate::proofs::ItemsSaid::behind_says))]
+#[tactic(auto, using(crate::proofs::ItemsSaid::hearing_says, crate::proofs::ItemsSaid::commanding_says, crate::proofs::ItemsSaid::ticking_says, crate::proofs::ItemsSaid::clock_keeps))]
 pub fn initialisations_go_out_in_order()
     ensures receipt { (now : ℕ) (bytes : List ℕ) (part : ClientSoFar) → SaysInOrder part (hearing now bytes part) }
     ensures command { (now : ℕ) (command : Command) (part : ClientSoFar) → SaysCommand (telegram_of command part) part (commanding now command part) }
     ensures tick { (now : ℕ) (part : ClientSoFar) → SaysNothing part (ticking now part) }
     ensures clock { (now : ℕ) (client : ClientState) → KeepsWhatWasSaid client (clocked now client) }
-    ensures behind { (now : ℕ) (part : ClientSoFar) → SaysNothing part (closing_behind now part) }
 {}
 
 /// Each item that comes is acted on or closes the link: an answer to the version check that tells another version with

@@ -9,10 +9,10 @@ use Rattle.ixl_spec.specs.sci_telegram.declared.message.Side.TheVariants as side
 use Rattle.ixl_spec.specs.rasta_core.Outbox.{OutboxState}
 use Rattle.ixl_spec.specs.ixl_client.Client.{ClientState, is_available, is_outside, is_ready}
 use Rattle.ixl_spec.specs.ixl_client.ClientSoFar.{begun}
-use Rattle.ixl_spec.specs.ixl_client.Step.{clocked, closing_behind, ticking}
+use Rattle.ixl_spec.specs.ixl_client.Step.{clocked, ticking}
 use Rattle.ixl_spec.specs.ixl_client.declared.stage.Stage.{Stage}
 use Rattle.ixl_spec.specs.ixl_client.declared.stage.Stage.TheVariants as stage
-use Rattle.ixl_known.specs.Nodes.{detector_closed, detector_ticked, known_point_closed, known_point_ticked}
+use Rattle.ixl_known.specs.Nodes.{detector_ticked, known_point_ticked}
 use Rattle.ixl_spec.specs.StepSoFar.{detector_after, known_point_after}
 use Rattle.ixl_spec.specs.State.{KnownDetectorState, KnownPointState}
 use Rattle.ixl_spec.specs.Step.{clocked_detector, clocked_known_point}
@@ -65,10 +65,6 @@ pub known_point_ticked_alike : (now : ℕ) (old new : KnownPointState) (box : Ou
 unfolding known_point_ticked
 known_point_ticked_alike now old new box is same = known_point_alike old new old.moved (ticking now (begun old.client box)).client is same
 
-pub known_point_closed_alike : (now : ℕ) (old new : KnownPointState) (box : OutboxState) → new ≡ (known_point_closed now old box).0 → is_available new.client.stage ≡ is_available old.client.stage → IsKnownAlike old new
-unfolding known_point_closed
-known_point_closed_alike now old new box is same = known_point_alike old new old.moved (closing_behind now (begun old.client box)).client is same
-
 -- a ready detector isn't outside, so that what it told stands
 occupied_after : (place : ℕ) (occupied : Places) (client : ClientState) →
     (if is_ready client.stage then Some (contains (detector_after occupied client).occupied place) else None) ≡ (if is_ready client.stage then Some (contains occupied place) else None)
@@ -97,10 +93,6 @@ detector_settled_alike now old new is same = detector_alike old new (clocked now
 pub detector_ticked_alike : (now : ℕ) (old new : KnownDetectorState) (box : OutboxState) → new ≡ (detector_ticked now old box).0 → is_ready new.client.stage ≡ is_ready old.client.stage → TellsTheSame old new
 unfolding detector_ticked
 detector_ticked_alike now old new box is same = detector_alike old new (ticking now (begun old.client box)).client is same
-
-pub detector_closed_alike : (now : ℕ) (old new : KnownDetectorState) (box : OutboxState) → new ≡ (detector_closed now old box).0 → is_ready new.client.stage ≡ is_ready old.client.stage → TellsTheSame old new
-unfolding detector_closed
-detector_closed_alike now old new box is same = detector_alike old new (closing_behind now (begun old.client box)).client is same
 
 -- ---- one of a list
 

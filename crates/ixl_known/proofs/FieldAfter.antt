@@ -8,7 +8,7 @@ use Rattle.ixl_spec.specs.rasta_core.Outbox.{OutboxState}
 use Rattle.ixl_spec.specs.rasta_core.identity.Identity.{Identity}
 use Rattle.ixl_spec.specs.rasta_pdu.declared.key.Key.{Key}
 use Rattle.ixl_spec.specs.StepSoFar.{Leads, StepSoFar, over}
-use Rattle.ixl_spec.specs.Step.{Tick, all_closing, detector_closing, detector_ticking, known_signal_closing, known_signal_ticking, known_point_closing, known_point_ticking, ticked}
+use Rattle.ixl_spec.specs.Step.{Tick, detector_ticking, known_signal_ticking, known_point_ticking, ticked}
 use Rattle.ixl_spec.specs.State.{KnownDetectorState, KnownSignalState, KnownPointState}
 use Rattle.ixl_known.specs.Nodes.{DetectorGoes, KnownSignalGoes, KnownPointGoes}
 use Rattle.ixl_known.specs.Field.{AllAt, FieldGoes, FieldState, Rest, kept}
@@ -128,29 +128,6 @@ all_tick now rest old box known_signals one known_points two detectors out first
   few = omega (arith, first.few, second.few, third.few);
 }
 
-pub all_close : (now : ℕ) (rest : Rest) (old : FieldState) (box : OutboxState) (known_signals : List KnownSignalState) (one : OutboxState) (known_points : List KnownPointState) (two : OutboxState) (detectors : List KnownDetectorState) (out : OutboxState) →
-    KnownSignalsTurned now 1 (known_signal_closing now) (length old.known_signals) old.known_signals box known_signals one → KnownPointsTurned now 1 (known_point_closing now) (length old.known_points) old.known_points one known_points two →
-    DetectorsTurned now 1 (detector_closing now) (length old.detectors) old.detectors two detectors out →
-    FieldGoes now (length old.known_signals + length old.known_points + length old.detectors) (all_closing now) rest old box (record old { known_signals = known_signals; known_points = known_points; detectors = detectors }) out
-unfolding all_closing
-all_close now rest old box known_signals one known_points two detectors out first second third = record {
-  leads = leads_at (all_closing now) (kept old rest) box (kept (record old { known_signals = known_signals; known_points = known_points; detectors = detectors }) rest) out
-      (λ calls acted.
-      let begins : Comes (over (known_signal_closing now) (length old.known_signals) (part_at (kept old rest) box calls acted)) (with_known_signals known_signals (kept old rest)) one =
-      first.leads (kept old rest) refl (part_at (kept old rest) box calls acted) refl refl
-      in let goes_on : Comes (over (known_point_closing now) (length old.known_points) (over (known_signal_closing now) (length old.known_signals) (part_at (kept old rest) box calls acted))) (with_known_points known_points (with_known_signals known_signals (kept old rest))) two =
-      second.leads (with_known_signals known_signals (kept old rest)) refl _ begins.0 begins.1
-      in third.leads (with_known_points known_points (with_known_signals known_signals (kept old rest))) refl _ goes_on.0 goes_on.1);
-  reporters = refl;
-  known_signals = first.each;
-  known_points = second.each;
-  detectors = third.each;
-  clock = record { known_signals = first.clock; known_points = second.clock; detectors = third.clock };
-  keys = λ key under. record { known_signals = first.keys key under.known_signals; known_points = second.keys key under.known_points; detectors = third.keys key under.detectors };
-  capacity = third.capacity ∙ second.capacity ∙ first.capacity;
-  few = omega (arith, first.few, second.few, third.few);
-}
-
 pub all_tick_from : (now : ℕ) (rest : Rest) (inside old : FieldState) (box : OutboxState) (known_signals_were known_signals : List KnownSignalState) (one : OutboxState) (known_points_were known_points : List KnownPointState) (two : OutboxState) (detectors_were detectors : List KnownDetectorState) (out : OutboxState) →
     inside ≡ old → known_signals_were ≡ inside.known_signals → known_points_were ≡ inside.known_points → detectors_were ≡ inside.detectors →
     KnownSignalsTurned now 2 (known_signal_ticking now) (length known_signals_were) known_signals_were box known_signals one → KnownPointsTurned now 2 (known_point_ticking now) (length known_points_were) known_points_were one known_points two →
@@ -162,18 +139,6 @@ all_tick_from now rest inside old box known_signals_were known_signals one known
     (subst (λ (xs : List KnownSignalState). KnownSignalsTurned now 2 (known_signal_ticking now) (length xs) xs box known_signals one) known_signals_are first)
     (subst (λ (xs : List KnownPointState). KnownPointsTurned now 2 (known_point_ticking now) (length xs) xs one known_points two) known_points_are second)
     (subst (λ (xs : List KnownDetectorState). DetectorsTurned now 2 (detector_ticking now) (length xs) xs two detectors out) detectors_are third))
-
-pub all_close_from : (now : ℕ) (rest : Rest) (inside old : FieldState) (box : OutboxState) (known_signals_were known_signals : List KnownSignalState) (one : OutboxState) (known_points_were known_points : List KnownPointState) (two : OutboxState) (detectors_were detectors : List KnownDetectorState) (out : OutboxState) →
-    inside ≡ old → known_signals_were ≡ inside.known_signals → known_points_were ≡ inside.known_points → detectors_were ≡ inside.detectors →
-    KnownSignalsTurned now 1 (known_signal_closing now) (length known_signals_were) known_signals_were box known_signals one → KnownPointsTurned now 1 (known_point_closing now) (length known_points_were) known_points_were one known_points two →
-    DetectorsTurned now 1 (detector_closing now) (length detectors_were) detectors_were two detectors out →
-    FieldGoes now (length old.known_signals + length old.known_points + length old.detectors) (all_closing now) rest old box (record inside { known_signals = known_signals; known_points = known_points; detectors = detectors }) out
-all_close_from now rest inside old box known_signals_were known_signals one known_points_were known_points two detectors_were detectors out same known_signals_are known_points_are detectors_are first second third =
-    subst (λ (o : FieldState). FieldGoes now (length o.known_signals + length o.known_points + length o.detectors) (all_closing now) rest o box (record inside { known_signals = known_signals; known_points = known_points; detectors = detectors }) out) same
-    (all_close now rest inside box known_signals one known_points two detectors out
-    (subst (λ (xs : List KnownSignalState). KnownSignalsTurned now 1 (known_signal_closing now) (length xs) xs box known_signals one) known_signals_are first)
-    (subst (λ (xs : List KnownPointState). KnownPointsTurned now 1 (known_point_closing now) (length xs) xs one known_points two) known_points_are second)
-    (subst (λ (xs : List KnownDetectorState). DetectorsTurned now 1 (detector_closing now) (length xs) xs two detectors out) detectors_are third))
 
 -- a fact of a field is one of the same lists
 pub same_lists : (fact : FieldState → Type 0) (known_signals same_known_signals : List KnownSignalState) (known_points same_known_points : List KnownPointState) (detectors same_detectors : List KnownDetectorState) (reporters : List (ℕ × ℕ)) →

@@ -7,8 +7,8 @@ use Rattle.ixl_spec.specs.sci_telegram.declared.message.Aspect.{Aspect}
 use Rattle.ixl_spec.specs.sci_telegram.declared.message.Side.{Side}
 use Rattle.ixl_spec.specs.StepSoFar.{Leads, Node, StepSoFar, giving_aspect, giving_move}
 use Rattle.ixl_spec.specs.State.{KnownDetectorState, IxlState, KnownSignalState, KnownPointState, changed}
-use Rattle.ixl_spec.specs.Step.{detector_closing, detector_ticking, known_signal_closing, known_signal_hearing, known_signal_ticking, known_point_closing, known_point_hearing, known_point_ticking}
-use Rattle.ixl_known.specs.Nodes.{detector_closed, detector_heard, detector_ticked, known_signal_closed, known_signal_given, known_signal_heard, known_signal_ticked, known_point_closed, known_point_given, known_point_heard, known_point_ticked}
+use Rattle.ixl_spec.specs.Step.{detector_ticking, known_signal_hearing, known_signal_ticking, known_point_hearing, known_point_ticking}
+use Rattle.ixl_known.specs.Nodes.{detector_heard, detector_ticked, known_signal_given, known_signal_heard, known_signal_ticked, known_point_given, known_point_heard, known_point_ticked}
 use Rattle.ixl_known.specs.Field.{detector_hearing_alone}
 use Rattle.ixl_known.specs.inside.Turns.{with_detectors, with_known_signals, with_known_points}
 
@@ -75,13 +75,6 @@ known_signal_ticks now signal ixl box old new out is node box_is =
     node_turns (λ (i : IxlState). i.known_signals) with_known_signals (known_signal_ticking now signal) ixl box signal old new out is
     (λ calls acted. rw is (ap (λ (l : KnownSignalState). with_known_signals (changed (λ (one : KnownSignalState). l) signal ixl.known_signals) ixl) (sym node), sym box_is))
 
-pub known_signal_closes : (now signal : ℕ) (ixl : IxlState) (box : OutboxState) (old new : KnownSignalState) (out : OutboxState) → slice_get ixl.known_signals signal ≡ Some old →
-    new ≡ (known_signal_closed now old box).0 → out ≡ (known_signal_closed now old box).1 → Leads (known_signal_closing now signal) ixl box (with_known_signals (slice_set ixl.known_signals signal new) ixl) out
-unfolding known_signal_closing known_signal_closed
-known_signal_closes now signal ixl box old new out is node box_is =
-    node_turns (λ (i : IxlState). i.known_signals) with_known_signals (known_signal_closing now signal) ixl box signal old new out is
-    (λ calls acted. rw is (ap (λ (l : KnownSignalState). with_known_signals (changed (λ (one : KnownSignalState). l) signal ixl.known_signals) ixl) (sym node), sym box_is))
-
 -- ---- points
 
 pub no_known_point : (now point : ℕ) (side : Side) (ixl : IxlState) (box : OutboxState) → slice_get ixl.known_points point ≡ None → Leads (giving_move now point side) ixl box ixl box
@@ -110,13 +103,6 @@ known_point_ticks now point ixl box old new out is node box_is =
     node_turns (λ (i : IxlState). i.known_points) with_known_points (known_point_ticking now point) ixl box point old new out is
     (λ calls acted. rw is (ap (λ (w : KnownPointState). with_known_points (changed (λ (one : KnownPointState). w) point ixl.known_points) ixl) (sym node), sym box_is))
 
-pub known_point_closes : (now point : ℕ) (ixl : IxlState) (box : OutboxState) (old new : KnownPointState) (out : OutboxState) → slice_get ixl.known_points point ≡ Some old →
-    new ≡ (known_point_closed now old box).0 → out ≡ (known_point_closed now old box).1 → Leads (known_point_closing now point) ixl box (with_known_points (slice_set ixl.known_points point new) ixl) out
-unfolding known_point_closing known_point_closed
-known_point_closes now point ixl box old new out is node box_is =
-    node_turns (λ (i : IxlState). i.known_points) with_known_points (known_point_closing now point) ixl box point old new out is
-    (λ calls acted. rw is (ap (λ (w : KnownPointState). with_known_points (changed (λ (one : KnownPointState). w) point ixl.known_points) ixl) (sym node), sym box_is))
-
 -- ---- detectors
 
 pub detector_hears : (now place : ℕ) (bytes : List ℕ) (ixl : IxlState) (box : OutboxState) (old new : KnownDetectorState) (out : OutboxState) → slice_get ixl.detectors place ≡ Some old →
@@ -131,11 +117,4 @@ pub detector_ticks : (now place : ℕ) (ixl : IxlState) (box : OutboxState) (old
 unfolding detector_ticking detector_ticked
 detector_ticks now place ixl box old new out is node box_is =
     node_turns (λ (i : IxlState). i.detectors) with_detectors (detector_ticking now place) ixl box place old new out is
-    (λ calls acted. rw is (ap (λ (d : KnownDetectorState). with_detectors (changed (λ (one : KnownDetectorState). d) place ixl.detectors) ixl) (sym node), sym box_is))
-
-pub detector_closes : (now place : ℕ) (ixl : IxlState) (box : OutboxState) (old new : KnownDetectorState) (out : OutboxState) → slice_get ixl.detectors place ≡ Some old →
-    new ≡ (detector_closed now old box).0 → out ≡ (detector_closed now old box).1 → Leads (detector_closing now place) ixl box (with_detectors (slice_set ixl.detectors place new) ixl) out
-unfolding detector_closing detector_closed
-detector_closes now place ixl box old new out is node box_is =
-    node_turns (λ (i : IxlState). i.detectors) with_detectors (detector_closing now place) ixl box place old new out is
     (λ calls acted. rw is (ap (λ (d : KnownDetectorState). with_detectors (changed (λ (one : KnownDetectorState). d) place ixl.detectors) ixl) (sym node), sym box_is))

@@ -8,14 +8,14 @@ use Rattle.ixl_spec.specs.rasta_core.Outbox.{OutboxState}
 use Rattle.ixl_spec.specs.bit_row.Places.{Places}
 use Rattle.ixl_spec.specs.ixl_client.Client.{ClientState}
 use Rattle.ixl_spec.specs.ixl_client.ClientSoFar.{ClientSoFar, Seen, begun, seen}
-use Rattle.ixl_spec.specs.ixl_client.Step.{clocked, closing_behind, commanding, hearing, ticking}
+use Rattle.ixl_spec.specs.ixl_client.Step.{clocked, commanding, hearing, ticking}
 use Rattle.ixl_spec.specs.ixl_client.Way as way
 use Rattle.ixl_spec.specs.ixl_client.declared.command.Command.TheVariants as commands
 use Rattle.ixl_spec.specs.ixl_client.declared.indication.Indication.{Indication}
 use Rattle.ixl_spec.specs.StepSoFar.{all_below, detector_after, known_signal_after, known_point_after}
 use Rattle.ixl_spec.specs.State.{KnownDetectorState, KnownSignalState, KnownPointState}
 use Rattle.ixl_spec.specs.Step.{clocked_detector, clocked_known_signal, clocked_known_point, indicated_heard, occupied_heard, side_heard}
-use Rattle.ixl_known.specs.Nodes.{DetectorGoes, Goes, KnownSignalGoes, KnownPointGoes, detector_closed, detector_heard, detector_ticked, known_signal_closed, known_signal_given, known_signal_heard, known_signal_ticked, known_point_closed, known_point_given, known_point_heard, known_point_ticked}
+use Rattle.ixl_known.specs.Nodes.{DetectorGoes, Goes, KnownSignalGoes, KnownPointGoes, detector_heard, detector_ticked, known_signal_given, known_signal_heard, known_signal_ticked, known_point_given, known_point_heard, known_point_ticked}
 use Rattle.ixl_known.proofs.Fallen.{detector_client, known_signal_client, known_point_client}
 
 abbrev pub view_of : ClientState → OutboxState → List Indication → Seen
@@ -72,16 +72,6 @@ known_signal_ticks now old after new box out goes is =
     (is ∙ ap (λ (s : Seen). known_signal_after old.aspect old.number old.indicated s.client) (sym so))
     (ap (λ (s : Seen). s.outbox) (sym so)) (ap (λ (l : KnownSignalState). l.client) is ∙ known_signal_client old.aspect old.number old.indicated new)
 
-pub known_signal_closes : (now : ℕ) (old after : KnownSignalState) (new : ClientState) (box out : OutboxState) →
-    way.Goes now 1 (closing_behind now) (view_of old.client box []) (view_of new out []) →
-    after ≡ known_signal_after old.aspect old.number old.indicated new → KnownSignalGoes now 1 (known_signal_closed now) old box after out
-unfolding known_signal_closed
-known_signal_closes now old after new box out goes is =
-    let so : seen (closing_behind now (begun old.client box)) ≡ view_of new out [] = done now 1 _ old.client new box out [] goes
-    in goes_so _ now 1 _ _ old after new box out [] goes
-    (is ∙ ap (λ (s : Seen). known_signal_after old.aspect old.number old.indicated s.client) (sym so))
-    (ap (λ (s : Seen). s.outbox) (sym so)) (ap (λ (l : KnownSignalState). l.client) is ∙ known_signal_client old.aspect old.number old.indicated new)
-
 pub known_signal_in : (now most : ℕ) (does : KnownSignalState → OutboxState → KnownSignalState × OutboxState) (inside old : KnownSignalState) (box : OutboxState) (new : KnownSignalState) (out : OutboxState) →
     inside ≡ old → KnownSignalGoes now most does inside box new out → KnownSignalGoes now most does old box new out
 known_signal_in now most does inside old box new out is goes = subst (λ (o : KnownSignalState). KnownSignalGoes now most does o box new out) is goes
@@ -133,16 +123,6 @@ known_point_ticks now old after new box out goes is =
     (is ∙ ap (λ (s : Seen). known_point_after old.side old.moved s.client) (sym so))
     (ap (λ (s : Seen). s.outbox) (sym so)) (ap (λ (w : KnownPointState). w.client) is ∙ known_point_client old.side old.moved new)
 
-pub known_point_closes : (now : ℕ) (old after : KnownPointState) (new : ClientState) (box out : OutboxState) →
-    way.Goes now 1 (closing_behind now) (view_of old.client box []) (view_of new out []) →
-    after ≡ known_point_after old.side old.moved new → KnownPointGoes now 1 (known_point_closed now) old box after out
-unfolding known_point_closed
-known_point_closes now old after new box out goes is =
-    let so : seen (closing_behind now (begun old.client box)) ≡ view_of new out [] = done now 1 _ old.client new box out [] goes
-    in goes_so _ now 1 _ _ old after new box out [] goes
-    (is ∙ ap (λ (s : Seen). known_point_after old.side old.moved s.client) (sym so))
-    (ap (λ (s : Seen). s.outbox) (sym so)) (ap (λ (w : KnownPointState). w.client) is ∙ known_point_client old.side old.moved new)
-
 pub known_point_in : (now most : ℕ) (does : KnownPointState → OutboxState → KnownPointState × OutboxState) (inside old : KnownPointState) (box : OutboxState) (new : KnownPointState) (out : OutboxState) →
     inside ≡ old → KnownPointGoes now most does inside box new out → KnownPointGoes now most does old box new out
 known_point_in now most does inside old box new out is goes = subst (λ (o : KnownPointState). KnownPointGoes now most does o box new out) is goes
@@ -180,16 +160,6 @@ unfolding detector_ticked
 detector_ticks now old after new box out goes is =
     let so : seen (ticking now (begun old.client box)) ≡ view_of new out [] = done now 2 _ old.client new box out [] goes
     in goes_so _ now 2 _ _ old after new box out [] goes
-    (is ∙ ap (λ (s : Seen). detector_after old.occupied s.client) (sym so))
-    (ap (λ (s : Seen). s.outbox) (sym so)) (ap (λ (d : KnownDetectorState). d.client) is ∙ detector_client old.occupied new)
-
-pub detector_closes : (now : ℕ) (old after : KnownDetectorState) (new : ClientState) (box out : OutboxState) →
-    way.Goes now 1 (closing_behind now) (view_of old.client box []) (view_of new out []) →
-    after ≡ detector_after old.occupied new → DetectorGoes now 1 (detector_closed now) old box after out
-unfolding detector_closed
-detector_closes now old after new box out goes is =
-    let so : seen (closing_behind now (begun old.client box)) ≡ view_of new out [] = done now 1 _ old.client new box out [] goes
-    in goes_so _ now 1 _ _ old after new box out [] goes
     (is ∙ ap (λ (s : Seen). detector_after old.occupied s.client) (sym so))
     (ap (λ (s : Seen). s.outbox) (sym so)) (ap (λ (d : KnownDetectorState). d.client) is ∙ detector_client old.occupied new)
 

@@ -5,7 +5,7 @@ use Rattle.ixl_spec.specs.sci_telegram.declared.message.Side.{Side}
 use Rattle.ixl_spec.specs.rasta_core.Outbox.{OutboxState}
 use Rattle.ixl_spec.specs.ixl_client.Client.{ClientState}
 use Rattle.ixl_spec.specs.ixl_client.ClientSoFar.{begun}
-use Rattle.ixl_spec.specs.ixl_client.Step.{closing_behind, commanding, hearing, ticking}
+use Rattle.ixl_spec.specs.ixl_client.Step.{commanding, hearing, ticking}
 use Rattle.ixl_spec.specs.ixl_client.declared.command.Command.TheVariants as commands
 use Rattle.ixl_spec.specs.ixl_client.declared.indication.Indication.{Indication}
 use Rattle.ixl_spec.specs.StepSoFar.{all_below, detector_after, known_signal_after, known_point_after}
@@ -44,11 +44,6 @@ known_signal_heard now bytes known_signal box =
     let done = hearing now bytes (begun known_signal.client box)
     in (known_signal_after known_signal.aspect known_signal.number (indicated_heard done.heard known_signal.indicated) done.client, done.outbox)
 
-unfoldable pub known_signal_closed : ℕ → KnownSignalState → OutboxState → KnownSignalState × OutboxState
-known_signal_closed now known_signal box =
-    let done = closing_behind now (begun known_signal.client box)
-    in (known_signal_after known_signal.aspect known_signal.number known_signal.indicated done.client, done.outbox)
-
 unfoldable pub known_signal_ticked : ℕ → KnownSignalState → OutboxState → KnownSignalState × OutboxState
 known_signal_ticked now known_signal box =
     let done = ticking now (begun known_signal.client box)
@@ -67,11 +62,6 @@ known_point_heard now bytes known_point box =
     let done = hearing now bytes (begun known_point.client box)
     in (known_point_after (side_heard done.heard known_point.side) known_point.moved done.client, done.outbox)
 
-unfoldable pub known_point_closed : ℕ → KnownPointState → OutboxState → KnownPointState × OutboxState
-known_point_closed now known_point box =
-    let done = closing_behind now (begun known_point.client box)
-    in (known_point_after known_point.side known_point.moved done.client, done.outbox)
-
 unfoldable pub known_point_ticked : ℕ → KnownPointState → OutboxState → KnownPointState × OutboxState
 known_point_ticked now known_point box =
     let done = ticking now (begun known_point.client box)
@@ -87,11 +77,6 @@ detector_heard now bytes detector box =
 -- what a detector was heard to tell
 abbrev pub AreHeardBy : ℕ → List ℕ → KnownDetectorState → OutboxState → List Indication → Type 0
 AreHeardBy now bytes detector box heard = heard ≡ (hearing now bytes (begun detector.client box)).heard
-
-unfoldable pub detector_closed : ℕ → KnownDetectorState → OutboxState → KnownDetectorState × OutboxState
-detector_closed now detector box =
-    let done = closing_behind now (begun detector.client box)
-    in (detector_after detector.occupied done.client, done.outbox)
 
 unfoldable pub detector_ticked : ℕ → KnownDetectorState → OutboxState → KnownDetectorState × OutboxState
 detector_ticked now detector box =

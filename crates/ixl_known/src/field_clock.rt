@@ -6,9 +6,9 @@ ghost use Rattle.std.specs.List.{All};
 ghost use Rattle.ixl_spec.specs.rasta_core.Calls.{MayStep};
 ghost use Rattle.ixl_spec.specs.rasta_core.Outbox.{HasRoomFor};
 ghost use Rattle.ixl_spec.specs.State.{KnownDetectorState as DetectorAt, KnownSignalState as KnownSignalAt, KnownPointState as KnownPointAt};
-ghost use Rattle.ixl_spec.specs.Step.{Tick, all_closing, clocked_detector, clocked_known_signal, clocked_known_point, detector_closing, detector_ticking, known_signal_closing, known_signal_ticking, known_point_closing, known_point_ticking, ticked};
+ghost use Rattle.ixl_spec.specs.Step.{Tick, clocked_detector, clocked_known_signal, clocked_known_point, detector_ticking, known_signal_ticking, known_point_ticking, ticked};
 ghost use Rattle.ixl_known.specs.Field.{AllAt, FieldGoes, MayStepAll, Rest, field_clocked};
-ghost use Rattle.ixl_known.specs.Nodes.{DetectorGoes, KnownPointGoes, detector_closed, detector_ticked, known_point_closed, known_point_ticked};
+ghost use Rattle.ixl_known.specs.Nodes.{DetectorGoes, KnownPointGoes, detector_ticked, known_point_ticked};
 ghost use Rattle.ixl_known.specs.inside.Alike.{AreKnownAlike, IsKnownAlike, TellTheSame, TellsTheSame};
 ghost use Rattle.ixl_known.specs.inside.Turns.{DetectorsTurned, KnownSignalsTurned, KnownPointsTurned};
 
@@ -72,71 +72,6 @@ fn settle_detectors(detectors: &mut [KnownDetector], now: Millis) -> bool
     let mut alike = true;
     for detector in detectors.iter_mut() {
         alike = settle_detector(detector, now) && alike;
-    }
-    alike
-}
-
-/// All signals whose links aren't caught up any more close them.
-fn close_known_signals(known_signals: &mut [KnownSignal], now: Millis, outbox: &mut Outbox)
-    requires clock { All (λ (known_signal : KnownSignalAt). known_signal.client.link.clock ≡ now) known_signals.old }
-    requires room { HasRoomFor (24 + length known_signals.old) outbox.old }
-    ensures { KnownSignalsTurned now 1 (known_signal_closing now) (length known_signals.old) known_signals.old outbox.old known_signals.new outbox.new }
-{
-    for signal in 0..known_signals.len() {
-        known_signals[signal].close_behind(now, outbox);
-    }
-}
-
-/// The link of a point that isn't caught up any more closes. Answers whether it is as available as before; its side is then known
-/// as before, as when the clock acts.
-fn close_known_point(known_point: &mut KnownPoint, now: Millis, outbox: &mut Outbox) -> bool
-    requires clock { known_point.old.client.link.clock ≡ now }
-    requires room { HasRoomFor 24 outbox.old }
-    ensures goes { KnownPointGoes now 1 (known_point_closed now) known_point.old outbox.old known_point.new outbox.new }
-    ensures alike { IsTrue result → IsKnownAlike known_point.old known_point.new }
-{
-    let was_available = known_point.is_available();
-    known_point.close_behind(now, outbox);
-    known_point.is_available() == was_available
-}
-
-/// All points whose links aren't caught up any more close them. Answers whether all are known as before.
-fn close_known_points(known_points: &mut [KnownPoint], now: Millis, outbox: &mut Outbox) -> bool
-    requires clock { All (λ (known_point : KnownPointAt). known_point.client.link.clock ≡ now) known_points.old }
-    requires room { HasRoomFor (24 + length known_points.old) outbox.old }
-    ensures turned { KnownPointsTurned now 1 (known_point_closing now) (length known_points.old) known_points.old outbox.old known_points.new outbox.new }
-    ensures alike { IsTrue result → AreKnownAlike known_points.old known_points.new }
-{
-    let mut alike = true;
-    for point in 0..known_points.len() {
-        alike = close_known_point(&mut known_points[point], now, outbox) && alike;
-    }
-    alike
-}
-
-/// The link of a detector that isn't caught up any more closes. Answers whether it is as ready as before; it then tells the same, as
-/// when the clock acts.
-fn close_detector(detector: &mut KnownDetector, now: Millis, outbox: &mut Outbox) -> bool
-    requires clock { detector.old.client.link.clock ≡ now }
-    requires room { HasRoomFor 24 outbox.old }
-    ensures goes { DetectorGoes now 1 (detector_closed now) detector.old outbox.old detector.new outbox.new }
-    ensures alike { IsTrue result → TellsTheSame detector.old detector.new }
-{
-    let was_ready = detector.is_ready();
-    detector.close_behind(now, outbox);
-    detector.is_ready() == was_ready
-}
-
-/// All detectors whose links aren't caught up any more close them. Answers whether all tell the same as before.
-fn close_detectors(detectors: &mut [KnownDetector], now: Millis, outbox: &mut Outbox) -> bool
-    requires clock { All (λ (detector : DetectorAt). detector.client.link.clock ≡ now) detectors.old }
-    requires room { HasRoomFor (24 + length detectors.old) outbox.old }
-    ensures turned { DetectorsTurned now 1 (detector_closing now) (length detectors.old) detectors.old outbox.old detectors.new outbox.new }
-    ensures alike { IsTrue result → TellTheSame detectors.old detectors.new }
-{
-    let mut alike = true;
-    for place in 0..detectors.len() {
-        alike = close_detector(&mut detectors[place], now, outbox) && alike;
     }
     alike
 }
@@ -232,21 +167,6 @@ impl Field {
         settle_known_signals(&mut self.known_signals, now);
         let known_alike = settle_known_points(&mut self.known_points, now);
         let told_alike = settle_detectors(&mut self.detectors, now);
-        self.sections = self
-            .sections
-            .kept_or_made(told_alike, &self.reporters, &self.detectors);
-        self.points = self.points.kept_or_made(known_alike, &self.known_points);
-    }
-
-    /// Where trains are kept apart, each link that isn't caught up any more closes, in the order of the nodes.
-    pub fn close_behind(&mut self, now: Millis, outbox: &mut Outbox)
-        requires clock { AllAt now self.old }
-        requires room { HasRoomFor (24 + (length self.old.known_signals + length self.old.known_points + length self.old.detectors)) outbox.old }
-        ensures { (rest : Rest) → FieldGoes now (length self.old.known_signals + length self.old.known_points + length self.old.detectors) (all_closing now) rest self.old outbox.old self.new outbox.new }
-    {
-        close_known_signals(&mut self.known_signals, now, outbox);
-        let known_alike = close_known_points(&mut self.known_points, now, outbox);
-        let told_alike = close_detectors(&mut self.detectors, now, outbox);
         self.sections = self
             .sections
             .kept_or_made(told_alike, &self.reporters, &self.detectors);

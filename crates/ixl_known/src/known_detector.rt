@@ -10,7 +10,7 @@ ghost use Rattle.ixl_spec.specs.ixl_client.Client.{is_ready};
 ghost use Rattle.ixl_spec.specs.ixl_client.declared.indication.Indication.{Indication as Told};
 ghost use Rattle.ixl_spec.specs.StepSoFar.{detector_after};
 ghost use Rattle.ixl_spec.specs.Step.{clocked_detector, is_told_occupied, occupied_heard};
-ghost use Rattle.ixl_known.specs.Nodes.{DetectorGoes, AreHeardBy, detector_closed, detector_heard, detector_ticked};
+ghost use Rattle.ixl_known.specs.Nodes.{DetectorGoes, AreHeardBy, detector_heard, detector_ticked};
 
 use ixl_spec::ixl_client::{
     Client, Indication, Indications, ObjectState, step_hears_what_was_taken, step_keeps_the_peer,
@@ -122,17 +122,6 @@ impl KnownDetector {
     {
         step_keeps_the_peer();
         self.client.settle(now);
-        self.fall();
-    }
-
-    /// Where trains are kept apart, a link that isn't caught up any more closes.
-    pub fn close_behind(&mut self, now: Millis, outbox: &mut Outbox)
-        requires clock { self.old.client.link.clock ≡ now }
-        requires room { HasRoomFor 24 outbox.old }
-        ensures { DetectorGoes now 1 (detector_closed now) self.old outbox.old self.new outbox.new }
-    {
-        step_keeps_the_peer();
-        self.client.close_behind(now, outbox);
         self.fall();
     }
 

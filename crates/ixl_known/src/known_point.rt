@@ -11,7 +11,7 @@ ghost use Rattle.ixl_spec.specs.StepSoFar.{all_below, known_point_after};
 ghost use Rattle.ixl_spec.specs.Commands.{unmoved_for};
 ghost use Rattle.ixl_spec.specs.Step.{clocked_known_point, side_heard, side_of};
 ghost use Rattle.ixl_spec.specs.View.{is_side};
-ghost use Rattle.ixl_known.specs.Nodes.{KnownPointGoes, known_point_closed, known_point_given, known_point_heard, known_point_ticked};
+ghost use Rattle.ixl_known.specs.Nodes.{KnownPointGoes, known_point_given, known_point_heard, known_point_ticked};
 
 use ixl_spec::ixl_client::{Client, Command, Indication, Indications, ObjectState};
 use ixl_spec::{BitRow, Millis, Outbox, Position, Side, Verdict};
@@ -162,16 +162,6 @@ impl KnownPoint {
         ensures kept { IsAt now self.old.client.link self.new.client.link }
     {
         self.client.settle(now);
-        self.fall();
-    }
-
-    /// Where trains are kept apart, a link that isn't caught up any more closes.
-    pub fn close_behind(&mut self, now: Millis, outbox: &mut Outbox)
-        requires clock { self.old.client.link.clock ≡ now }
-        requires room { HasRoomFor 24 outbox.old }
-        ensures { KnownPointGoes now 1 (known_point_closed now) self.old outbox.old self.new outbox.new }
-    {
-        self.client.close_behind(now, outbox);
         self.fall();
     }
 

@@ -8,7 +8,7 @@ ghost use Rattle.ixl_spec.specs.StepSoFar.{known_signal_after};
 ghost use Rattle.ixl_spec.specs.Step.{aspect_of, clocked_known_signal, indicated_heard};
 ghost use Rattle.ixl_spec.specs.rasta_core.State.{confirmed_items, is_up};
 ghost use Rattle.ixl_spec.specs.View.{has_taken_stop, is_known_signal_at_stop};
-ghost use Rattle.ixl_known.specs.Nodes.{KnownSignalGoes, known_signal_closed, known_signal_given, known_signal_heard, known_signal_ticked};
+ghost use Rattle.ixl_known.specs.Nodes.{KnownSignalGoes, known_signal_given, known_signal_heard, known_signal_ticked};
 
 use ixl_spec::ixl_client::{Client, Command, Indication, Indications, ObjectState};
 use ixl_spec::{Aspect, Millis, Outbox, Verdict};
@@ -136,16 +136,6 @@ impl KnownSignal {
         ensures kept { IsAt now self.old.client.link self.new.client.link }
     {
         self.client.settle(now);
-        self.fall();
-    }
-
-    /// Where trains are kept apart, a link that isn't caught up any more closes.
-    pub fn close_behind(&mut self, now: Millis, outbox: &mut Outbox)
-        requires clock { self.old.client.link.clock ≡ now }
-        requires room { HasRoomFor 24 outbox.old }
-        ensures { KnownSignalGoes now 1 (known_signal_closed now) self.old outbox.old self.new outbox.new }
-    {
-        self.client.close_behind(now, outbox);
         self.fall();
     }
 

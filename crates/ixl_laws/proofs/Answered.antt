@@ -7,26 +7,23 @@ use Rattle.ixl_state.specs.layout.Entries.{Site}
 use Rattle.ixl_state.specs.layout.declared.entries.Point.{Point as LayoutPoint}
 use Rattle.ixl_state.specs.rasta_core.Clock.{settled}
 use Rattle.ixl_state.specs.ixl_client.Client.{ClientState, PeerState, is_outside, new_client}
-use Rattle.ixl_state.specs.ixl_client.Step.{clocked, closed_behind}
+use Rattle.ixl_state.specs.ixl_client.Step.{clocked}
 use Rattle.ixl_state.specs.ixl_client.declared.indication.ObjectState.{ObjectState}
 use Rattle.ixl_state.specs.ixl_client.declared.stage.Stage.{Stage}
 use Rattle.ixl_state.specs.ixl_client.declared.stage.Stage.TheVariants as stage
 use Rattle.ixl_state.specs.ixl_client.ItemsSaid.{items_said, items_sent}
 use Rattle.ixl_state.specs.ixl_spec.Due.{Known}
-use Rattle.ixl_state.specs.ixl_spec.StepSoFar.{StepSoFar, Point, over}
+use Rattle.ixl_state.specs.ixl_spec.StepSoFar.{StepSoFar, Point, begun_with, empty_outbox, over}
 use Rattle.ixl_state.specs.ixl_spec.Rules.{count, ruled}
 use Rattle.ixl_state.specs.ixl_spec.State.{IxlState, KnownPointState}
-use Rattle.ixl_state.specs.ixl_spec.Step.{Input, Reply, as_found, clocked_known_point, closed_known_point, given, noting, stepped, watching}
+use Rattle.ixl_state.specs.ixl_spec.Step.{Input, Reply, all_clocked, clocked_known_point, given, stepped, watching}
 use Rattle.ixl_state.specs.ixl_spec.Table.{Table}
 use Rattle.ixl_state.specs.First.{Beginning, key_of, new_ixl, new_known_point_of}
 use Rattle.ixl.specs.Interlocking.{HasStepped, InterlockingState, step_of}
-use Rattle.ixl_laws.specs.Answered.{GoesOnAnswered, IsAnswered, IsCounted, IsOfPoint, found, kept_by, last_told, move_items, told_in}
+use Rattle.ixl_laws.specs.Answered.{GoesOnAnswered, IsAnswered, IsCounted, IsOfPoint, kept_by, last_told, move_items, told_in}
 use Rattle.ixl_laws.specs.Nodes.{of_node}
-use Rattle.ixl_laws.specs.WholeStep.{clock_left}
 use Rattle.ixl_laws.proofs.PointAnswers.{Begins, Hears, Says, SaysNoMore, SoFar, available_completed, given_stays, ruled_stays, seen_stays, known_point_none, known_point_side, ticked_stays}
-use Rattle.ixl_laws.proofs.ClosedFirst.{left_sent, left_unacted}
 use Rattle.ixl_laws.proofs.Clients.{mapped, known_point_client}
-use Rattle.ixl_laws.proofs.Found.{closed_peer, closed_stage, found_is}
 use Rattle.ixl_laws.proofs.Hears.{Counts, counts_inside, counts_within, fallen_peer, inside_stays, nothing_outside}
 use Rattle.ixl_laws.proofs.PickedByTest.{none_is, some_same}
 
@@ -38,25 +35,22 @@ counted_outside (stage.AwaitsStatus left) moves told is = absurd (false≢true i
 counted_outside stage.Completed moves told is = absurd (false≢true is)
 counted_outside stage.AwaitsReport moves told is = absurd (false≢true is)
 
--- a point as the input finds it, and what is kept of what was given and told
+-- a point once the clock has acted, and what is kept of what was given and told
 module _ (now : ℕ) (before : KnownPointState) (moves : List Side) (told : List ObjectState) (was : IsAnswered moves told before) where
-  abbrev settled_point : KnownPointState
-  settled_point = clocked_known_point now before
+  client : ClientState
+  client = clocked now before.client
 
   abbrev start : KnownPointState
-  start = closed_known_point now settled_point
+  start = clocked_known_point now before
 
   abbrev kept_moves : List Side
-  kept_moves = kept_by (found now before.client) moves
+  kept_moves = kept_by (clocked now before.client) moves
 
   abbrev kept_told : List ObjectState
-  kept_told = kept_by (found now before.client) told
+  kept_told = kept_by (clocked now before.client) told
 
-  settled_is : settled_point.client ≡ clocked now before.client
-  settled_is = known_point_client before.side before.moved (clocked now before.client)
-
-  client_is : start.client ≡ found now before.client
-  client_is = known_point_client settled_point.side settled_point.moved (closed_behind now settled_point.client) ∙ ap (closed_behind now) settled_is
+  client_is : start.client ≡ clocked now before.client
+  client_is = known_point_client before.side before.moved (clocked now before.client)
 
   clocked_peer : (clocked now before.client).peer ≡ before.client.peer
   unfolding clocked
@@ -67,37 +61,27 @@ module _ (now : ℕ) (before : KnownPointState) (moves : List Side) (told : List
   clocked_stage inside = inside_stays (record before.client { link = settled now before.client.link }) inside
 
   peer_is : start.client.peer ≡ before.client.peer
-  peer_is = ap (λ (c : ClientState). c.peer) client_is ∙ closed_peer now (clocked now before.client) ∙ clocked_peer
+  peer_is = ap (λ (c : ClientState). c.peer) client_is ∙ clocked_peer
 
-  clocked_inside : is_outside (found now before.client).stage ≡ false → is_outside (clocked now before.client).stage ≡ false
-  clocked_inside inside = ap is_outside (sym (closed_stage now (clocked now before.client) inside)) ∙ inside
+  was_inside : is_outside (clocked now before.client).stage ≡ false → is_outside before.client.stage ≡ false
+  was_inside inside = ap is_outside (sym (clocked_stage inside)) ∙ inside
 
-  found_stage : is_outside (found now before.client).stage ≡ false → (found now before.client).stage ≡ before.client.stage
-  found_stage inside = closed_stage now (clocked now before.client) inside ∙ clocked_stage (clocked_inside inside)
+  counts_by : (b : Bool) → is_outside (clocked now before.client).stage ≡ b → Counts (clocked now before.client).stage (if b then [] else moves) (if b then [] else told)
+  counts_by true outside = nothing_outside (clocked now before.client).stage outside
+  counts_by false inside = subst (λ s. Counts s moves told) (sym (clocked_stage inside)) (counts_within before.client.stage moves told (was_inside inside) was.counted)
 
-  was_inside : is_outside (found now before.client).stage ≡ false → is_outside before.client.stage ≡ false
-  was_inside inside = ap is_outside (sym (found_stage inside)) ∙ inside
+  side_by : (b : Bool) → is_outside (clocked now before.client).stage ≡ b → start.side ≡ last_told None (if b then [] else told)
+  side_by true outside = known_point_none before.side before.moved (clocked now before.client) outside
+  side_by false inside = known_point_side before.side before.moved (clocked now before.client) inside ∙ was.last (was_inside inside)
 
-  counts_by : (b : Bool) → is_outside (found now before.client).stage ≡ b → Counts (found now before.client).stage (if b then [] else moves) (if b then [] else told)
-  counts_by true outside = nothing_outside (found now before.client).stage outside
-  counts_by false inside = subst (λ s. Counts s moves told) (sym (found_stage inside)) (counts_within before.client.stage moves told (was_inside inside) was.counted)
-
-  found_outside : (b : Bool) → is_outside (found now before.client).stage ≡ b → is_outside (closed_behind now settled_point.client).stage ≡ b
-  found_outside b is = ap (λ (c : ClientState). is_outside (closed_behind now c).stage) settled_is ∙ is
-
-  side_by : (b : Bool) → is_outside (found now before.client).stage ≡ b → start.side ≡ last_told None (if b then [] else told)
-  side_by true outside = known_point_none settled_point.side settled_point.moved (closed_behind now settled_point.client) (found_outside true outside)
-  side_by false inside = known_point_side settled_point.side settled_point.moved (closed_behind now settled_point.client) (found_outside false inside)
-      ∙ known_point_side before.side before.moved (clocked now before.client) (clocked_inside inside) ∙ was.last (was_inside inside)
-
-  begins : (place : ℕ) (part : StepSoFar) → slice_get part.ixl.known_points place ≡ Some start → items_sent (of_node (Point place) part.calls) ≡ [] → of_node (Point place) part.acted ≡ [] → Begins place start kept_moves kept_told part
+  begins : (place : ℕ) (part : StepSoFar) → slice_get part.ixl.known_points place ≡ Some start → part.calls ≡ [] → part.acted ≡ [] → Begins place start kept_moves kept_told part
   begins place part there calls acted = record {
     there = there;
     of = subst IsOfPoint (sym peer_is) was.point;
     calls = calls;
     acted = acted;
-    counts = subst (λ (c : ClientState). Counts c.stage kept_moves kept_told) (sym client_is) (counts_by (is_outside (found now before.client).stage) refl);
-    side = side_by (is_outside (found now before.client).stage) refl;
+    counts = subst (λ (c : ClientState). Counts c.stage kept_moves kept_told) (sym client_is) (counts_by (is_outside (clocked now before.client).stage) refl);
+    side = side_by (is_outside (clocked now before.client).stage) refl;
   }
 
   -- after all parts of a step
@@ -119,28 +103,25 @@ module _ (now : ℕ) (before : KnownPointState) (moves : List Side) (told : List
 
 pub stays_answered : (now : ℕ) (input : Input) (old new : InterlockingState) (answer : Reply) (place : ℕ) (before after : KnownPointState) (moves : List Side) (told : List ObjectState) → Hears now → Says now → SaysNoMore now →
     HasStepped now input old new answer → slice_get old.state.ixl.known_points place ≡ Some before → slice_get new.state.ixl.known_points place ≡ Some after → IsAnswered moves told before → GoesOnAnswered now input old place before after moves told
-unfolding stepped as_found
+unfolding stepped all_clocked
 stays_answered now input old new answer place before after moves told hears says more step is also was =
     ends now before moves told was input old place after so_far (some_same (sym so_far.there ∙ ap (λ (i : IxlState). slice_get i.known_points place) (sym step.ixl) ∙ also))
   where
     table : Table
     table = old.state.sited.table
 
-    left : StepSoFar
-    left = clock_left now old
+    begun : StepSoFar
+    begun = begun_with (all_clocked now old.state.ixl) empty_outbox
 
     heard : StepSoFar
-    heard = given now table (key_of old.state.sited.site) input left
+    heard = given now table (key_of old.state.sited.site) input begun
 
-    there : slice_get (clock_left now old).ixl.known_points place ≡ Some (closed_known_point now (clocked_known_point now before))
-    there = ap (λ (i : IxlState). slice_get i.known_points place) (found_is now old) ∙ mapped (λ one. closed_known_point now (clocked_known_point now one)) place old.state.ixl.known_points before is
-
-    so_far : SoFar place (closed_known_point now (clocked_known_point now before)) (kept_by (found now before.client) moves) (kept_by (found now before.client) told) (step_of now input old.state)
-    so_far = ticked_stays place _ _ _ now input (ruled now table (over (noting now table) (count table) (over (watching table) (count table) heard))) more
-        (ruled_stays place _ _ _ now table (over (noting now table) (count table) (over (watching table) (count table) heard)) says
-        (seen_stays place _ _ _ now table heard
-        (given_stays place _ _ _ now table (key_of old.state.sited.site) input left says hears
-        (begins now before moves told was place left there (left_sent now old (Point place)) (left_unacted now old (Point place))))))
+    so_far : SoFar place (clocked_known_point now before) (kept_by (clocked now before.client) moves) (kept_by (clocked now before.client) told) (step_of now input old.state)
+    so_far = ticked_stays place _ _ _ now input (ruled now table (over (watching table) (count table) heard)) more
+        (ruled_stays place _ _ _ now table (over (watching table) (count table) heard) says
+        (seen_stays place _ _ _ table heard
+        (given_stays place _ _ _ now table (key_of old.state.sited.site) input begun says hears
+        (begins now before moves told was place begun (mapped (clocked_known_point now) place old.state.ixl.known_points before is) refl refl))))
 
 -- ---- an interlocking that was just made
 

@@ -10,7 +10,7 @@ use Rattle.ixl_state.specs.layout.Entries.{Site}
 use Rattle.ixl_state.specs.ixl_table.Table.{SitedTable}
 use Rattle.ixl_state.specs.ixl_spec.Due.{Admissible, Blocks, HoldsPoint, HoldsSection, IsRouteOf}
 use Rattle.ixl_state.specs.ixl_spec.State.{IxlState, RouteState}
-use Rattle.ixl_state.specs.ixl_spec.Step.{Accepted, Commands, Input, Reply, as_found}
+use Rattle.ixl_state.specs.ixl_spec.Step.{Accepted, Commands, Input, Reply, all_clocked}
 use Rattle.ixl_state.specs.ixl_spec.Table.{Need, Row, Table}
 use Rattle.ixl_state.specs.ixl_spec.View.{freed_sections, is_set}
 use Rattle.ixl_state.specs.ixl_spec.declared.command.Command.TheVariants as commands
@@ -136,7 +136,7 @@ new_apart table ixl number other row other_row route p q unblocked differ is set
 -- a request is accepted only where it is admissible
 abbrev pub Accepts : Type 0
 Accepts = (now : ℕ) (route : RouteId) (old new : InterlockingState) (answer : Reply) → HasStepped now (Commands (commands.Request route)) old new answer →
-    answer ≡ Accepted ↔ Admissible now old.state.sited.table (as_found now old.state.ixl) route.0
+    answer ≡ Accepted ↔ Admissible now old.state.sited.table (all_clocked now old.state.ixl) route.0
 
 is_request_for : Input → ℕ
 is_request_for (Commands (commands.Request route)) = route.0
@@ -144,14 +144,14 @@ is_request_for _ = 0
 
 unblocked_by : (now : ℕ) (input : Input) (old new : InterlockingState) (answer : Reply) (number : ℕ) (row : Row) → Accepts → HasStepped now input old new answer →
     input ≡ Commands (commands.Request (record { 0 = number })) → answer ≡ Accepted → slice_get old.state.sited.table.rows number ≡ Some row →
-    (blocking : ℕ) → Blocks old.state.sited.table (as_found now old.state.ixl) blocking number row → ⊥
+    (blocking : ℕ) → Blocks old.state.sited.table (all_clocked now old.state.ixl) blocking number row → ⊥
 unblocked_by now input old new answer number row accepts step request accepted is blocking blocks =
     let may = (accepts now (record { 0 = number }) old new answer (subst (λ (i : Input). HasStepped now i old new answer) request step)).0 accepted
-    in may.unblocked blocking (subst (λ (r : Row). Blocks old.state.sited.table (as_found now old.state.ixl) blocking number r) (some_same (sym is ∙ may.known.0)) blocks)
+    in may.unblocked blocking (subst (λ (r : Row). Blocks old.state.sited.table (all_clocked now old.state.ixl) blocking number r) (some_same (sym is ∙ may.known.0)) blocks)
 
 pub stay_apart : (now : ℕ) (input : Input) (old new : InterlockingState) (answer : Reply) → Accepts → HasStepped now input old new answer →
     AllApart old.state.sited.table old.state.ixl → AllApart new.state.sited.table new.state.ixl
-unfolding as_found is_request_for
+unfolding all_clocked is_request_for
 stay_apart now input old new answer accepts step apart number other row other_row route another differ is also set too =
     by_ways (steps_go_on now input old new answer number one.0 route step one.1 is.1) (steps_go_on now input old new answer other two.0 another step two.1 also.1)
   where
@@ -170,11 +170,11 @@ stay_apart now input old new answer accepts step apart number other row other_ro
     by_ways : GoesOn input answer number one.0.phase route.phase → GoesOn input answer other two.0.phase another.phase → StandApart number other row other_row route.phase another.phase
     by_ways (inl onward) (inl on) = still_apart number other row other_row route.phase another.phase one.0.phase two.0.phase onward on
         (apart number other row other_row one.0 two.0 differ (row_is, one.1) (other_row_is, two.1) (set_back one.0.phase route.phase onward set) (set_back two.0.phase another.phase on too))
-    by_ways (inr anew) (inl on) = new_apart old.state.sited.table (as_found now old.state.ixl) number other row other_row two.0 route.phase another.phase
+    by_ways (inr anew) (inl on) = new_apart old.state.sited.table (all_clocked now old.state.ixl) number other row other_row two.0 route.phase another.phase
         (unblocked_by now input old new answer number row accepts step anew.request anew.accepted row_is) (λ same. differ (sym same)) (other_row_is, two.1)
         (set_back two.0.phase another.phase on too) on
     by_ways (inl onward) (inr anew) = flipped other number other_row row another.phase route.phase
-        (new_apart old.state.sited.table (as_found now old.state.ixl) other number other_row row one.0 another.phase route.phase
+        (new_apart old.state.sited.table (all_clocked now old.state.ixl) other number other_row row one.0 another.phase route.phase
         (unblocked_by now input old new answer other other_row accepts step anew.request anew.accepted other_row_is) differ (row_is, one.1)
         (set_back one.0.phase route.phase onward set) onward)
     by_ways (inr anew) (inr too_anew) = absurd (differ (ap is_request_for (sym anew.request ∙ too_anew.request)))

@@ -8,9 +8,9 @@ use Rattle.ixl_state.specs.ixl_client.ClientSoFar.{LinkCall}
 use Rattle.ixl_state.specs.ixl_spec.StepSoFar.{Node, StepSoFar, along, at_route, giving_aspect, giving_move, over, with_one, with_route}
 use Rattle.ixl_state.specs.ixl_spec.Rules.{authorised, count, ending_authority, freeing_by_cancel, freeing_by_passage, freeing_next, frees_cancelled, frees_next, is_move_due, is_proceed_due, is_proceeding, is_stop_due, is_withdrawn, moving, moving_one, proceeding, repeated, ruled, stopped, withdrawing}
 use Rattle.ixl_state.specs.ixl_spec.State.{IxlState, RouteState}
-use Rattle.ixl_state.specs.ixl_spec.Step.{noting, watching}
+use Rattle.ixl_state.specs.ixl_spec.Step.{watching}
 use Rattle.ixl_state.specs.ixl_spec.Table.{Need, Row, Table}
-use Rattle.ixl_state.specs.ixl_spec.View.{is_at_known_stop, is_signal_ready, was_authorised}
+use Rattle.ixl_state.specs.ixl_spec.View.{is_at_known_stop, is_signal_ready}
 
 -- two parts that differ in what was called and acted on alone
 pub record Alike (a b : StepSoFar) : Type 0 where
@@ -123,14 +123,8 @@ unfolding watching
 watching_blind table number = at_route_blind table number _ (λ row route calls acted part.
     by_case (is_proceeding route.phase || is_withdrawn route.phase) _ _ (marked calls acted part) part (record { ixl = refl; outbox = refl }) (same_marked calls acted part))
 
-pub noting_blind : (now : ℕ) (table : Table) (number : ℕ) → Blind (noting now table number)
-unfolding noting
-noting_blind now table number = at_route_blind table number _ (λ row route calls acted part.
-    by_case (table.is_strict && was_authorised route.phase) _ _ (marked calls acted part) part (record { ixl = refl; outbox = refl }) (same_marked calls acted part))
-
--- what is seen and noted, and the six rules
-pub seen_and_ruled : (now : ℕ) (table : Table) (a b : StepSoFar) → Alike a b →
-    Alike (ruled now table (over (noting now table) (count table) (over (watching table) (count table) a))) (ruled now table (over (noting now table) (count table) (over (watching table) (count table) b)))
+-- what is seen, and the six rules
+pub seen_and_ruled : (now : ℕ) (table : Table) (a b : StepSoFar) → Alike a b → Alike (ruled now table (over (watching table) (count table) a)) (ruled now table (over (watching table) (count table) b))
 seen_and_ruled now table a b same =
     blindly (over (proceeding now table) (count table)) (over_blind (proceeding now table) (proceeding_blind now table) (count table)) _ _
     (blindly (over (moving now table) (count table)) (over_blind (moving now table) (moving_blind now table) (count table)) _ _
@@ -138,5 +132,4 @@ seen_and_ruled now table a b same =
     (blindly (over (freeing_by_passage table) (count table)) (over_blind (freeing_by_passage table) (passage_blind table) (count table)) _ _
     (blindly (over (ending_authority now table) (count table)) (over_blind (ending_authority now table) (ending_blind now table) (count table)) _ _
     (blindly (over (withdrawing now table) (count table)) (over_blind (withdrawing now table) (withdrawing_blind now table) (count table)) _ _
-    (blindly (over (noting now table) (count table)) (over_blind (noting now table) (noting_blind now table) (count table)) _ _
-    (blindly (over (watching table) (count table)) (over_blind (watching table) (watching_blind table) (count table)) a b same)))))))
+    (blindly (over (watching table) (count table)) (over_blind (watching table) (watching_blind table) (count table)) a b same))))))

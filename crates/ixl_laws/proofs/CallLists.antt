@@ -19,7 +19,7 @@ own_joined (call ∷ calls) more one next = (one.0, own_joined calls more one.1 
 
 -- ---- what they take
 
-pub taken_joined : (now : ℕ) (some more : List LinkCall) (link : LinkState) → items_taken now (some ++ more) link ≡ items_taken now some link ++ items_taken now more (link_after now some link)
+taken_joined : (now : ℕ) (some more : List LinkCall) (link : LinkState) → items_taken now (some ++ more) link ≡ items_taken now some link ++ items_taken now more (link_after now some link)
 unfolding link_after items_taken
 taken_joined now [] more link = refl
 taken_joined now (call ∷ calls) more link =

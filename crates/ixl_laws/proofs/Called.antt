@@ -11,7 +11,7 @@ use Rattle.ixl_state.specs.ixl_spec.StepSoFar.{Detector, Node, StepSoFar, Point,
 use Rattle.ixl_state.specs.ixl_spec.State.{KnownDetectorState, IxlState, KnownSignalState, KnownPointState}
 use Rattle.ixl_state.specs.ixl_spec.Step.{Commands, Datagram, Input, Reply, Tick, all_clocked, client_at, clocked_detector, clocked_known_signal, clocked_known_point, stepped, ticked}
 use Rattle.ixl.specs.Interlocking.{HasStepped, InterlockingState, step_of}
-use Rattle.ixl_laws.specs.Called.{ActsOnTaken, ComesInOrder, HandsOut, IsNobody, Stays, acted_at, calls_at, datagrams_of, items_taken, receipt_at}
+use Rattle.ixl_laws.specs.Called.{ActsOnTaken, HandsOut, IsNobody, ReceivesFirst, Stays, acted_at, calls_at, datagrams_of, items_taken, receipt_at}
 use Rattle.ixl_laws.specs.Nodes.{of_node}
 use Rattle.ixl_laws.proofs.CalledGiven.{given_called}
 use Rattle.ixl_laws.proofs.CalledSoFar.{Called, CalledAt, SoFar}
@@ -101,8 +101,8 @@ module _ (now : ℕ) (laws : ClientLaws now) (old : InterlockingState) where
         pub acts_on_taken : ActsOnTaken (items_taken now (calls_at now input old node) (settled now before.link)) (acted_at now input old node) after.link
         acts_on_taken = subst (λ (l : LinkState). ActsOnTaken (items_taken now (calls_at now input old node) l) (acted_at now input old node) after.link) (clocked_link now before) called.items
 
-      pub comes_in_order : ComesInOrder (receipt_at now input old node) (calls_at now input old node)
-      comes_in_order = (called client_stays.after client_stays.there).receives
+      pub receives_first : ReceivesFirst (receipt_at now input old node) (calls_at now input old node)
+      receives_first = (called client_stays.after client_stays.there).receives
 
       sent_is : sent_at node ≡ datagrams_of now (calls_at now input old node) (settled now before.link)
       sent_is = (called client_stays.after client_stays.there).datagrams ∙ ap (datagrams_of now (calls_at now input old node)) (clocked_link now before)

@@ -1,11 +1,11 @@
 -- The input of a step calls links.
-use Rattle.std.proofs.Common.{◌≡◌, inr, ℕ, List, [], refl, ap, sym, ◌∙◌, subst}
+use Rattle.std.proofs.Common.{◌≡◌, inr, ℕ, List, refl, ap, sym, ◌∙◌, subst}
 use Rattle.std.specs.Prelude.{Option, Some, None, is_some, option_map, slice_get}
 use Rattle.ixl_state.specs.rasta_pdu.PduRead.{reading}
 use Rattle.ixl_state.specs.ixl_client.ClientSoFar.{LinkCall, begun}
 use Rattle.ixl_state.specs.ixl_client.Step.{hearing}
 use Rattle.ixl_state.specs.ixl_spec.Commands.{commanded_by, moved_at_once, obeyed, refusal, unmoved_for}
-use Rattle.ixl_state.specs.ixl_spec.StepSoFar.{Detector, Node, StepSoFar, Point, Signal, detector_after, known_signal_after, known_point_after, with_one}
+use Rattle.ixl_state.specs.ixl_spec.StepSoFar.{Detector, Node, StepSoFar, Point, Signal, begun_with, detector_after, empty_outbox, known_signal_after, known_point_after, with_one}
 use Rattle.ixl_state.specs.ixl_spec.State.{KnownDetectorState, IxlState, KnownSignalState, KnownPointState, changed}
 use Rattle.ixl_state.specs.ixl_spec.Step.{Commands, Datagram, Input, Tick, addressed, all_clocked, client_at, detector_hearing, given, indicated_heard, known_signal_hearing, looking, looks, node_hearing, occupied_heard, side_heard, known_point_hearing}
 use Rattle.ixl_state.specs.ixl_spec.Table.{Table}
@@ -15,58 +15,57 @@ use Rattle.ixl_state.specs.ixl_spec.declared.command.Refusal.{Refusal}
 use Rattle.ixl_state.specs.First.{key_of}
 use Rattle.ixl.specs.Interlocking.{InterlockingState}
 use Rattle.ixl_laws.specs.Called.{receipt_at, receipt_by}
-use Rattle.ixl_laws.specs.Nodes.{of_node}
-use Rattle.ixl_laws.specs.WholeStep.{clock_left}
 use Rattle.ixl_laws.proofs.CalledReceipt.{nobody, nothing_called, received, unlisted}
 use Rattle.ixl_laws.proofs.CalledSoFar.{SoFar, same_clients}
-use Rattle.ixl_laws.proofs.CalledSteps.{ClientLaws, left_called, move_called, route_called}
-use Rattle.ixl_laws.proofs.ClosedFirst.{IsClosed, left_closed}
-use Rattle.ixl_laws.proofs.Found.{found_is}
+use Rattle.ixl_laws.proofs.CalledSteps.{ClientLaws, move_called, route_called}
 use Rattle.ixl_laws.proofs.Clients.{Puts, detection_at, detector_client, detector_kept, detector_put, known_signal_client, known_signal_kept, known_signal_put, mapped_option, point_at, signal_at, known_point_client, known_point_kept, known_point_put}
 use Rattle.ixl_laws.proofs.Ruled.{along_holds, looking_holds, with_one_or_none}
 
 -- ---- a datagram, by the kind of its sender
 
-module _ (now : ℕ) (laws : ClientLaws now) (first : IxlState) (begins : StepSoFar) (closing : SoFar now first (λ other. []) begins) (closed : (node : Node) → IsClosed (of_node node begins.calls)) (table : Table) (bytes : List ℕ) where
+module _ (now : ℕ) (laws : ClientLaws now) (first : IxlState) (table : Table) (bytes : List ℕ) where
+  abbrev begins : StepSoFar
+  begins = begun_with first empty_outbox
+
   abbrev From : Option Node → StepSoFar → Type 0
   From sender part = SoFar now first (receipt_by table bytes sender) part
 
   signal_called : (place : ℕ) → From (Some (Signal place)) (known_signal_hearing now bytes place begins)
   unfolding known_signal_hearing
-  signal_called place = with_one_or_none (From (Some (Signal place))) (slice_get begins.ixl.known_signals place) _ begins
+  signal_called place = with_one_or_none (From (Some (Signal place))) (slice_get first.known_signals place) _ begins
       (λ known_signal there.
-      let heard = hearing now bytes (begun known_signal.client begins.outbox)
+      let heard = hearing now bytes (begun known_signal.client empty_outbox)
       in let new : KnownSignalState = known_signal_after known_signal.aspect known_signal.number (indicated_heard heard.heard known_signal.indicated) heard.client
-      in let ixl : IxlState = record begins.ixl { known_signals = changed (λ old. new) place begins.ixl.known_signals }
-      in received now first begins closing closed laws table bytes (Signal place) known_signal.client (signal_at place begins.ixl ∙ ap known_signal_kept there) refl ixl
-      (subst (λ c. Puts (Signal place) c begins.ixl ixl) (known_signal_client known_signal.aspect known_signal.number (indicated_heard heard.heard known_signal.indicated) heard.client) (known_signal_put place known_signal new begins.ixl there)))
-      (λ none. nobody now first begins closing closed laws table bytes (Signal place) (signal_at place begins.ixl ∙ ap known_signal_kept none))
+      in let ixl : IxlState = record first { known_signals = changed (λ old. new) place first.known_signals }
+      in received now first laws table bytes (Signal place) known_signal.client (signal_at place first ∙ ap known_signal_kept there) refl ixl
+      (subst (λ c. Puts (Signal place) c first ixl) (known_signal_client known_signal.aspect known_signal.number (indicated_heard heard.heard known_signal.indicated) heard.client) (known_signal_put place known_signal new first there)))
+      (λ none. nobody now first laws table bytes (Signal place) (signal_at place first ∙ ap known_signal_kept none))
 
   point_called : (place : ℕ) → From (Some (Point place)) (known_point_hearing now bytes place begins)
   unfolding known_point_hearing
-  point_called place = with_one_or_none (From (Some (Point place))) (slice_get begins.ixl.known_points place) _ begins
+  point_called place = with_one_or_none (From (Some (Point place))) (slice_get first.known_points place) _ begins
       (λ known_point there.
-      let heard = hearing now bytes (begun known_point.client begins.outbox)
+      let heard = hearing now bytes (begun known_point.client empty_outbox)
       in let new : KnownPointState = known_point_after (side_heard heard.heard known_point.side) known_point.moved heard.client
-      in let ixl : IxlState = record begins.ixl { known_points = changed (λ old. new) place begins.ixl.known_points }
-      in received now first begins closing closed laws table bytes (Point place) known_point.client (point_at place begins.ixl ∙ ap known_point_kept there) refl ixl
-      (subst (λ c. Puts (Point place) c begins.ixl ixl) (known_point_client (side_heard heard.heard known_point.side) known_point.moved heard.client) (known_point_put place known_point new begins.ixl there)))
-      (λ none. nobody now first begins closing closed laws table bytes (Point place) (point_at place begins.ixl ∙ ap known_point_kept none))
+      in let ixl : IxlState = record first { known_points = changed (λ old. new) place first.known_points }
+      in received now first laws table bytes (Point place) known_point.client (point_at place first ∙ ap known_point_kept there) refl ixl
+      (subst (λ c. Puts (Point place) c first ixl) (known_point_client (side_heard heard.heard known_point.side) known_point.moved heard.client) (known_point_put place known_point new first there)))
+      (λ none. nobody now first laws table bytes (Point place) (point_at place first ∙ ap known_point_kept none))
 
   detection_called : (place : ℕ) → From (Some (Detector place)) (detector_hearing now table bytes place begins)
   unfolding detector_hearing
   detection_called place = with_one_or_none (From (Some (Detector place))) (slice_get table.detectors place) _ begins
-      (λ sections listed. with_one_or_none (From (Some (Detector place))) (slice_get begins.ixl.detectors place) _ begins
+      (λ sections listed. with_one_or_none (From (Some (Detector place))) (slice_get first.detectors place) _ begins
       (λ detector there.
-      let heard = hearing now bytes (begun detector.client begins.outbox)
+      let heard = hearing now bytes (begun detector.client empty_outbox)
       in let new : KnownDetectorState = detector_after (occupied_heard heard.heard detector.occupied) heard.client
-      in let ixl : IxlState = record begins.ixl { detectors = changed (λ old. new) place begins.ixl.detectors }
+      in let ixl : IxlState = record first { detectors = changed (λ old. new) place first.detectors }
       in along_holds (From (Some (Detector place))) (looking table) (looking_holds (From (Some (Detector place))) (route_called now laws first (receipt_by table bytes (Some (Detector place)))) table)
       (looks sections detector heard.heard heard.client) _
-      (received now first begins closing closed laws table bytes (Detector place) detector.client (detection_at place begins.ixl ∙ ap detector_kept there) (ap is_some listed) ixl
-      (subst (λ c. Puts (Detector place) c begins.ixl ixl) (detector_client (occupied_heard heard.heard detector.occupied) heard.client) (detector_put place detector new begins.ixl there))))
-      (λ none. nobody now first begins closing closed laws table bytes (Detector place) (detection_at place begins.ixl ∙ ap detector_kept none)))
-      (λ none. unlisted now first begins closing closed laws table bytes (Detector place) (ap is_some none))
+      (received now first laws table bytes (Detector place) detector.client (detection_at place first ∙ ap detector_kept there) (ap is_some listed) ixl
+      (subst (λ c. Puts (Detector place) c first ixl) (detector_client (occupied_heard heard.heard detector.occupied) heard.client) (detector_put place detector new first there))))
+      (λ none. nobody now first laws table bytes (Detector place) (detection_at place first ∙ ap detector_kept none)))
+      (λ none. unlisted now first laws table bytes (Detector place) (ap is_some none))
 
   node_called : (sender : Node) → From (Some sender) (node_hearing now table bytes sender begins)
   unfolding node_hearing
@@ -75,7 +74,7 @@ module _ (now : ℕ) (laws : ClientLaws now) (first : IxlState) (begins : StepSo
   node_called (Detector place) = detection_called place
 
   datagram_called : (sender : Option Node) → From sender (with_one sender (node_hearing now table bytes) begins)
-  datagram_called None = nothing_called now first begins closing closed (receipt_by table bytes None) (λ node. inr refl)
+  datagram_called None = nothing_called now first (receipt_by table bytes None) (λ node. inr refl)
   datagram_called (Some sender) = node_called sender
 
 -- ---- a command changes no client, but a move that of its point
@@ -128,19 +127,15 @@ moved_called now laws first receipt None (commands.Open named) part so_far = so_
 -- ---- an input
 
 pub given_called : (now : ℕ) → ClientLaws now → (old : InterlockingState) (input : Input) →
-    SoFar now (all_clocked now old.state.ixl) (receipt_at now input old) (given now old.state.sited.table (key_of old.state.sited.site) input (clock_left now old))
+    SoFar now (all_clocked now old.state.ixl) (receipt_at now input old) (given now old.state.sited.table (key_of old.state.sited.site) input (begun_with (all_clocked now old.state.ixl) empty_outbox))
 unfolding given
-given_called now laws old Tick =
-    nothing_called now (all_clocked now old.state.ixl) (clock_left now old) (left_called now laws old) (left_closed now old) (receipt_at now Tick old) (λ node. inr refl)
-given_called now laws old (Commands command) =
-    let first : IxlState = all_clocked now old.state.ixl
-    in let left : StepSoFar = clock_left now old
-    in let cause = refusal now old.state.sited.table command left.ixl
-    in moved_called now laws first (receipt_at now (Commands command) old) cause command _
-    (same_clients now first (receipt_at now (Commands command) old) left _ (λ node. commanded_clients now cause command left.ixl node)
-    (nothing_called now first left (left_called now laws old) (left_closed now old) (receipt_at now (Commands command) old) (λ node. inr refl)))
+given_called now laws old Tick = nothing_called now (all_clocked now old.state.ixl) (receipt_at now Tick old) (λ node. inr refl)
+given_called now laws old (Commands command) = moved_called now laws first (receipt_at now (Commands command) old) (refusal now old.state.sited.table command first) command _
+    (same_clients now first (receipt_at now (Commands command) old) (begun_with first empty_outbox) _
+    (λ node. commanded_clients now (refusal now old.state.sited.table command first) command first node)
+    (nothing_called now first (receipt_at now (Commands command) old) (λ node. inr refl)))
+  where
+    first : IxlState
+    first = all_clocked now old.state.ixl
 given_called now laws old (Datagram bytes) =
-    let left : StepSoFar = clock_left now old
-    in subst (λ (ixl : IxlState). SoFar now (all_clocked now old.state.ixl) (receipt_by old.state.sited.table bytes (addressed (reading (key_of old.state.sited.site) bytes) ixl))
-    (with_one (addressed (reading (key_of old.state.sited.site) bytes) left.ixl) (node_hearing now old.state.sited.table bytes) left)) (found_is now old)
-    (datagram_called now laws (all_clocked now old.state.ixl) left (left_called now laws old) (left_closed now old) old.state.sited.table bytes (addressed (reading (key_of old.state.sited.site) bytes) left.ixl))
+    datagram_called now laws (all_clocked now old.state.ixl) old.state.sited.table bytes (addressed (reading (key_of old.state.sited.site) bytes) (all_clocked now old.state.ixl))

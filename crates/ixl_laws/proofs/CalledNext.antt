@@ -62,15 +62,9 @@ module _ (now : ℕ) (first : IxlState) (receipt : Node → List LinkCall) where
         datagrams = ap (λ some. some ++ handed_out) so_far.datagrams
             ∙ ap (λ (link : LinkState). datagrams_of now calls start.link ++ datagrams_of now list link) so_far.link ∙ sym (handed_out_joined now calls list start.link);
         receives = record {
-          closed = so_far.receives.closed;
-          others = so_far.receives.others ++ list;
-          calls_are = ap (λ some. some ++ list) so_far.receives.calls_are ∙ append_assoc so_far.receives.closed so_far.receives.others list;
-          behind = so_far.receives.behind;
-          receives = record {
-            own = so_far.receives.receives.own ++ list;
-            calls_are = ap (λ some. some ++ list) so_far.receives.receives.calls_are ∙ append_assoc (receipt node) so_far.receives.receives.own list;
-            take_nothing = own_joined so_far.receives.receives.own list so_far.receives.receives.take_nothing does.makes.2;
-          };
+          own = so_far.receives.own ++ list;
+          calls_are = ap (λ some. some ++ list) so_far.receives.calls_are ∙ append_assoc (receipt node) so_far.receives.own list;
+          take_nothing = own_joined so_far.receives.own list so_far.receives.take_nothing does.makes.2;
         };
         items = record {
           dropped = so_far.items.dropped;

@@ -1,13 +1,13 @@
 -- A step so far: what was done at each controller is a list of calls of its link.
-use Rattle.std.proofs.Common.{◌≡◌, inl, ℕ, List, [], ◌∷◌, refl, ap, sym, subst}
+use Rattle.std.proofs.Common.{◌≡◌, ℕ, List, [], ◌∷◌, refl, ap, sym, subst}
 use Rattle.std.specs.Prelude.{map, Option, Some, None}
 use Rattle.ixl_state.specs.ixl_client.Client.{ClientState}
-use Rattle.ixl_state.specs.ixl_client.Made.{link_after, outbox_after}
+use Rattle.ixl_state.specs.ixl_client.Made.{link_after}
 use Rattle.ixl_state.specs.ixl_client.ClientSoFar.{LinkCall}
-use Rattle.ixl_state.specs.ixl_spec.StepSoFar.{Node, StepSoFar, begun_with, empty_outbox}
+use Rattle.ixl_state.specs.ixl_spec.StepSoFar.{Node, StepSoFar}
 use Rattle.ixl_state.specs.ixl_spec.State.{IxlState}
 use Rattle.ixl_state.specs.ixl_spec.Step.{client_at}
-use Rattle.ixl_laws.specs.Called.{ActsOnTaken, ComesInOrder, datagrams_of, items_taken}
+use Rattle.ixl_laws.specs.Called.{ActsOnTaken, ReceivesFirst, datagrams_of, items_taken}
 use Rattle.ixl_laws.specs.Nodes.{of_node}
 
 -- datagrams, each with the controller for which it was handed out
@@ -21,13 +21,13 @@ pub unlabelled_labels : (node : Node) (datagrams : List (List ℕ)) → unlabell
 unlabelled_labels node [] = refl
 unlabelled_labels node (first ∷ others) = ap (λ list. first ∷ list) (unlabelled_labels node others)
 
--- from an interlocking on, with the receipt that comes at each controller, behind the close of a link that isn't caught up
+-- from an interlocking on, with the receipt that comes first at each controller
 module _ (now : ℕ) (first : IxlState) (receipt : Node → List LinkCall) where
   pub record Called (node : Node) (calls : List LinkCall) (acted sent : List (List ℕ)) (old new : ClientState) : Type 0 where
     pub link : new.link ≡ link_after now calls old.link
     pub same : new.peer ≡ old.peer
     pub datagrams : sent ≡ datagrams_of now calls old.link
-    pub receives : ComesInOrder (receipt node) calls
+    pub receives : ReceivesFirst (receipt node) calls
     pub items : ActsOnTaken (items_taken now calls old.link) acted new.link
     -- where no datagram is received nothing can be dropped
     pub nothing : receipt node ≡ [] → items.dropped ≡ []
@@ -59,20 +59,3 @@ module _ (now : ℕ) (first : IxlState) (receipt : Node → List LinkCall) where
     outbox = so_far.outbox;
     each = λ node. subst (CalledAt node (of_node node part.calls) (of_node node part.acted) (of_node node so_far.sent) (client_at node first)) (sym (same node)) (so_far.each node);
   }
-
--- nothing was done yet
-at_first : (now : ℕ) (first : IxlState) (node : Node) (kept : Option ClientState) → CalledAt now first (λ other. []) node [] [] [] kept kept
-unfolding link_after outbox_after items_taken
-at_first now first node None = (refl, refl)
-at_first now first node (Some old) = record {
-  link = refl;
-  same = refl;
-  datagrams = refl;
-  receives = record { closed = []; others = []; calls_are = refl; behind = inl refl; receives = record { own = []; calls_are = refl; take_nothing = tt } };
-  items = record { dropped = []; beginning = refl; whole = λ opened. refl };
-  nothing = λ also. refl;
-}
-
-pub begins_called : (now : ℕ) (first : IxlState) → SoFar now first (λ other. []) (begun_with first empty_outbox)
-unfolding of_node
-begins_called now first = record { sent = []; outbox = refl; each = λ node. at_first now first node (client_at node first) }

@@ -1,4 +1,4 @@
--- The closes of a step, its rules and its ticks call links.
+-- The rules and ticks of a step call links.
 use Rattle.std.proofs.Common.{◌≡◌, inl, inr, ℕ, List, [], length, refl, ap, ◌∙◌, subst}
 use Rattle.std.specs.Prelude.{Option, Some, slice_get}
 use Rattle.ixl_state.specs.rasta_core.Outbox.{OutboxState}
@@ -9,22 +9,19 @@ use Rattle.ixl_state.specs.ixl_client.Client.{ClientState}
 use Rattle.ixl_state.specs.ixl_client.Made.{ActsOn, MakesAfterReceipt, MakesOwn}
 use Rattle.ixl_state.specs.ixl_client.ClientSoFar as client
 use Rattle.ixl_state.specs.ixl_client.ClientSoFar.{LinkCall, begun, calling}
-use Rattle.ixl_state.specs.ixl_client.Step.{closing_behind, commanding, hearing, message_of, ticking}
+use Rattle.ixl_state.specs.ixl_client.Step.{commanding, hearing, message_of, ticking}
 use Rattle.ixl_state.specs.ixl_client.declared.command.Command.{Command}
 use Rattle.ixl_state.specs.ixl_client.declared.command.Command.TheVariants as commands
 use Rattle.ixl_state.specs.ixl_spec.StepSoFar.{Detector, Node, StepSoFar, Point, Signal, all_below, detector_after, giving_aspect, giving_move, known_signal_after, noted, over, known_point_after, with_detector, with_known_signal, with_route, with_known_point}
 use Rattle.ixl_state.specs.ixl_spec.Rules.{count, ruled}
 use Rattle.ixl_state.specs.ixl_spec.State.{KnownDetectorState, IxlState, KnownSignalState, RouteState, KnownPointState, changed}
-use Rattle.ixl_state.specs.ixl_spec.Step.{Tick, all_clocked, all_closing, client_at, detector_closing, detector_ticking, known_signal_closing, known_signal_ticking, known_point_closing, known_point_ticking, noting, ticked, watching}
+use Rattle.ixl_state.specs.ixl_spec.Step.{Tick, client_at, detector_ticking, known_signal_ticking, known_point_ticking, ticked, watching}
 use Rattle.ixl_state.specs.ixl_spec.Table.{Table}
-use Rattle.ixl.specs.Interlocking.{InterlockingState}
-use Rattle.ixl_laws.specs.WholeStep.{clock_left}
 use Rattle.ixl_laws.proofs.CalledNext.{Does, called_next}
-use Rattle.ixl_laws.proofs.CalledSoFar.{SoFar, begins_called, same_clients}
-use Rattle.ixl_laws.proofs.ClosedFirst.{closing_acts}
+use Rattle.ixl_laws.proofs.CalledSoFar.{SoFar, same_clients}
 use Rattle.ixl_laws.proofs.Clients.{Puts, detection_at, detector_client, detector_kept, detector_put, known_signal_client, known_signal_kept, known_signal_put, point_at, signal_at, known_point_client, known_point_kept, known_point_put}
 use Rattle.ixl_laws.proofs.Hears.{posting_posts}
-use Rattle.ixl_laws.proofs.Ruled.{IsKeptByChanges, closing_holds, over_holds, ruled_holds, seen_holds, with_one_holds}
+use Rattle.ixl_laws.proofs.Ruled.{IsKeptByChanges, over_holds, ruled_holds, seen_holds, with_one_holds}
 use Rattle.ixl_laws.proofs.Shut.{commanding_shut}
 
 -- the laws of a client
@@ -33,11 +30,9 @@ pub record ClientLaws (now : ℕ) : Type 0 where
   pub acts : (bytes : List ℕ) (part : client.ClientSoFar) → ActsOn now bytes part (hearing now bytes part)
   pub command : (command : Command) (part : client.ClientSoFar) → MakesOwn now part (commanding now command part)
   pub tick : (part : client.ClientSoFar) → MakesOwn now part (ticking now part)
-  pub behind : (part : client.ClientSoFar) → MakesOwn now part (closing_behind now part)
   pub same_receipt : (bytes : List ℕ) (part : client.ClientSoFar) → (hearing now bytes part).client.peer ≡ part.client.peer
   pub same_command : (command : Command) (part : client.ClientSoFar) → (commanding now command part).client.peer ≡ part.client.peer
   pub same_tick : (part : client.ClientSoFar) → (ticking now part).client.peer ≡ part.client.peer
-  pub same_behind : (part : client.ClientSoFar) → (closing_behind now part).client.peer ≡ part.client.peer
 
 pub commanding_acts : (now : ℕ) (command : Command) (part : client.ClientSoFar) → (commanding now command part).acted ≡ part.acted
 unfolding commanding
@@ -67,14 +62,6 @@ module _ (now : ℕ) (laws : ClientLaws now) (first : IxlState) (receipt : Node 
     makes = laws.tick (begun old outbox);
     acted = ticking_acts now (begun old outbox);
     same = laws.same_tick (begun old outbox);
-    opens = inr none;
-  }
-
-  shut : (node : Node) (old : ClientState) (outbox : OutboxState) → receipt node ≡ [] → DoesAt node old outbox (closing_behind now (begun old outbox))
-  shut node old outbox none = record {
-    makes = laws.behind (begun old outbox);
-    acted = closing_acts now old outbox;
-    same = laws.same_behind (begun old outbox);
     opens = inr none;
   }
 
@@ -128,34 +115,12 @@ module _ (now : ℕ) (laws : ClientLaws now) (first : IxlState) (receipt : Node 
   changes_called : IsKeptByChanges now On
   changes_called = record { route = route_called; aspect = aspect_called; move = λ point side part available on. move_called point side part on }
 
-  pub rules_called : (table : Table) (part : StepSoFar) → On part → On (ruled now table (over (noting now table) (count table) (over (watching table) (count table) part)))
-  rules_called table part on = ruled_holds On now changes_called table _ (seen_holds On route_called table now part on)
+  pub rules_called : (table : Table) (part : StepSoFar) → On part → On (ruled now table (over (watching table) (count table) part))
+  rules_called table part on = ruled_holds On now changes_called table _ (seen_holds On route_called table part on)
 
-  -- ---- where no datagram is received
+  -- ---- ticks
 
   module _ (none : (node : Node) → receipt node ≡ []) where
-    -- ---- links that aren't caught up any more
-
-    known_signal_closes : (signal : ℕ) (part : StepSoFar) → On part → On (known_signal_closing now signal part)
-    unfolding known_signal_closing
-    known_signal_closes signal part on = with_one_holds On (slice_get part.ixl.known_signals signal) _ part (λ known_signal there.
-        known_signal_next signal known_signal part there (closing_behind now (begun known_signal.client part.outbox)) known_signal.aspect known_signal.number known_signal.indicated (shut (Signal signal) known_signal.client part.outbox (none (Signal signal))) on) on
-
-    known_point_closes : (point : ℕ) (part : StepSoFar) → On part → On (known_point_closing now point part)
-    unfolding known_point_closing
-    known_point_closes point part on = with_one_holds On (slice_get part.ixl.known_points point) _ part (λ known_point there.
-        known_point_next point known_point part there (closing_behind now (begun known_point.client part.outbox)) known_point.side known_point.moved (shut (Point point) known_point.client part.outbox (none (Point point))) on) on
-
-    detector_closes : (place : ℕ) (part : StepSoFar) → On part → On (detector_closing now place part)
-    unfolding detector_closing
-    detector_closes place part on = with_one_holds On (slice_get part.ixl.detectors place) _ part (λ detector there.
-        detector_next place detector part there (closing_behind now (begun detector.client part.outbox)) detector.occupied (shut (Detector place) detector.client part.outbox (none (Detector place))) on) on
-
-    pub closing_called : (part : StepSoFar) → On part → On (all_closing now part)
-    closing_called part on = closing_holds On now known_signal_closes known_point_closes detector_closes part on
-
-    -- ---- ticks
-
     known_signal_ticks : (signal : ℕ) (part : StepSoFar) → On part → On (known_signal_ticking now signal part)
     unfolding known_signal_ticking
     known_signal_ticks signal part on = with_one_holds On (slice_get part.ixl.known_signals signal) _ part (λ known_signal there.
@@ -177,7 +142,3 @@ module _ (now : ℕ) (laws : ClientLaws now) (first : IxlState) (receipt : Node 
         over_holds On (detector_ticking now) detector_ticks (length part.ixl.detectors) _
         (over_holds On (known_point_ticking now) known_point_ticks (length part.ixl.known_points) _
         (over_holds On (known_signal_ticking now) known_signal_ticks (length part.ixl.known_signals) part on))
-
--- what the clock leaves, with each link closed that isn't caught up any more
-pub left_called : (now : ℕ) → ClientLaws now → (old : InterlockingState) → SoFar now (all_clocked now old.state.ixl) (λ other. []) (clock_left now old)
-left_called now laws old = closing_called now laws (all_clocked now old.state.ixl) (λ other. []) (λ node. refl) _ (begins_called now (all_clocked now old.state.ixl))

@@ -5,7 +5,7 @@ use Rattle.std.proofs.lemmas.Bool.{false≢true, true≢false}
 use Rattle.ixl_state.specs.layout.declared.ids.RouteId.{RouteId}
 use Rattle.ixl_state.specs.ixl_spec.Commands.{cancel_refusal, refusal, refused_where}
 use Rattle.ixl_state.specs.ixl_spec.State.{IxlState, RouteState}
-use Rattle.ixl_state.specs.ixl_spec.Step.{Accepted, Commands, Received, Refused, Reply, Ticked, as_found, answer_by, reply}
+use Rattle.ixl_state.specs.ixl_spec.Step.{Accepted, Commands, Received, Refused, Reply, Ticked, all_clocked, answer_by, reply}
 use Rattle.ixl_state.specs.ixl_spec.View.{is_holding, is_set}
 use Rattle.ixl_state.specs.ixl_spec.declared.command.Command.TheVariants as commands
 use Rattle.ixl_state.specs.ixl_spec.declared.command.Refusal.{Refusal}
@@ -69,7 +69,7 @@ cause_of other _ = other
 -- the answer to a cancel, by why it is refused
 answer_is : (now : ℕ) (route : RouteId) (old new : InterlockingState) (answer : Reply) → HasStepped now (Commands (commands.Cancel route)) old new answer →
     answer ≡ answer_by (cancel_refusal now old.state.ixl (slice_get old.state.ixl.routes route.0))
-unfolding reply refusal as_found
+unfolding reply refusal all_clocked
 answer_is now route old new answer step = step.answered
 
 pub cancel_accepted : (now : ℕ) (route : RouteId) (old new : InterlockingState) (answer : Reply) → HasStepped now (Commands (commands.Cancel route)) old new answer →
@@ -100,7 +100,7 @@ cancel_refused now route old new answer cause step refused = by_cause _ refl whe
 
 resume_answer : (now : ℕ) (old new : InterlockingState) (answer : Reply) → HasStepped now (Commands commands.Resume) old new answer →
     answer ≡ answer_by (refused_where (is_holding now old.state.ixl) refusals.Holding None)
-unfolding reply refusal as_found
+unfolding reply refusal all_clocked
 resume_answer now old new answer step = step.answered
 
 pub resume_accepted : (now : ℕ) (old new : InterlockingState) (answer : Reply) → HasStepped now (Commands commands.Resume) old new answer →

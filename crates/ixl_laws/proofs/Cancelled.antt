@@ -9,7 +9,7 @@ use Rattle.ixl_state.specs.ixl_spec.Table.{Row, Table}
 use Rattle.ixl_state.specs.ixl_spec.declared.phase.Phase.{Phase}
 use Rattle.ixl_state.specs.ixl_spec.declared.phase.Phase.TheVariants as phase
 use Rattle.ixl_laws.specs.Onward.{order_of}
-use Rattle.ixl_laws.specs.WholeStep.{Beat, DoesItsTurn, EndAuthority, FreeCancelled, FreeSection, MovePoint, Note, Passed, Proceed, Turn, Watch, Withdraw, approach_seen, beaten, sections_noted}
+use Rattle.ixl_laws.specs.WholeStep.{Beat, DoesItsTurn, EndAuthority, FreeCancelled, FreeSection, MovePoint, Passed, Proceed, Turn, Watch, Withdraw, approach_seen, beaten}
 use Rattle.ixl_laws.proofs.PickedByTest.{either, some_same}
 use Rattle.ixl_laws.proofs.TurnKeeps.{Stays, where_stays}
 use Rattle.ixl_laws.proofs.TurnOrder.{beaten_keeps, stopped_keeps}
@@ -56,9 +56,6 @@ module _ (now : ℕ) (table : Table) (number : ℕ) where
   off_kept (Watch place) before after (row, route, is, does) off lost =
       where_stays IsOffThere before (with_route place (approach_seen table before.ixl row) before) after does off
       (λ due. route_off number place (approach_seen table before.ixl row) before (λ other at kept. kept) off) lost
-  off_kept (Note place) before after (row, route, is, does) off lost =
-      where_stays IsOffThere before (with_route place (sections_noted now table before.ixl row) before) after does off
-      (λ due. route_off number place (sections_noted now table before.ixl row) before (λ other at kept. kept) off) lost
   off_kept (Withdraw place) before after (row, route, is, does) off lost =
       where_stays IsOffThere before (stopped now row (with_route place (come_to phase.Withdrawn) before)) after does off
       (λ due. same_off number (with_route place (come_to phase.Withdrawn) before) (stopped now row (with_route place (come_to phase.Withdrawn) before)) (stopped_keeps now row (with_route place (come_to phase.Withdrawn) before))

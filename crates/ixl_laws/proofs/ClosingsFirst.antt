@@ -17,7 +17,7 @@ use Rattle.ixl_state.specs.ixl_spec.closings.Things.{Names}
 use Rattle.ixl_state.specs.ixl_spec.Commands.{commanded_by, obeyed, refusal}
 use Rattle.ixl_state.specs.ixl_spec.OperationCauses.{IsNamed, KeepsOpen, MayBeClosed, OfRoute}
 use Rattle.ixl_state.specs.ixl_spec.State.{IxlState, RouteState}
-use Rattle.ixl_state.specs.ixl_spec.Step.{Accepted, Commands, Datagram, Input, Reply, Tick, as_found, given}
+use Rattle.ixl_state.specs.ixl_spec.Step.{Accepted, Commands, Datagram, Input, Reply, Tick, all_clocked, given}
 use Rattle.ixl_state.specs.ixl_spec.Table.{SitedTable, Table}
 use Rattle.ixl_state.specs.ixl_spec.View.{is_set}
 use Rattle.ixl_state.specs.ixl_spec.declared.command.Command.{Command}
@@ -29,7 +29,6 @@ use Rattle.ixl_laws.specs.GivenOnce.{OneAfterAnother, StepTaken}
 use Rattle.ixl_laws.specs.Onward.{GoesOn}
 use Rattle.ixl_laws.specs.Operations.{AllAccepted, AreCloses, closed_after, last_of}
 use Rattle.ixl_laws.proofs.Apart.{set_back}
-use Rattle.ixl_laws.proofs.Found.{found_in}
 use Rattle.ixl_laws.proofs.KeptBehind.{behind_input, closed_step, command_stays, others_stay, stepped_stays}
 use Rattle.ixl_laws.proofs.OperationAnswers.{accepted_so}
 use Rattle.ixl_laws.proofs.PickedByTest.{none_is, some_same}
@@ -53,16 +52,16 @@ left_signals now None (commands.Move point side) ixl = refl
 left_signals now None (commands.Close named) ixl = refl
 left_signals now None (commands.Open named) ixl = refl
 
-clocked_signals : (now : ℕ) (ixl : IxlState) → length (as_found now ixl).known_signals ≡ length ixl.known_signals
-unfolding as_found
+clocked_signals : (now : ℕ) (ixl : IxlState) → length (all_clocked now ixl).known_signals ≡ length ixl.known_signals
+unfolding all_clocked
 clocked_signals now ixl = length-map ixl.known_signals _
 
 input_signals : (now : ℕ) (table : Table) (key : Key) (input : Input) (ixl : IxlState) → length (behind_input now table key input ixl).ixl.known_signals ≡ length ixl.known_signals
 unfolding given
-input_signals now table key Tick ixl = ap (λ (i : IxlState). length i.known_signals) (found_in now ixl) ∙ clocked_signals now ixl
+input_signals now table key Tick ixl = clocked_signals now ixl
 input_signals now table key (Datagram bytes) ixl = (others_stay now table key bytes ixl).signals_are
 input_signals now table key (Commands command) ixl =
-    (command_stays now table key command ixl).signals_are ∙ left_signals now (refusal now table command (as_found now ixl)) command (as_found now ixl) ∙ clocked_signals now ixl
+    (command_stays now table key command ixl).signals_are ∙ left_signals now (refusal now table command (all_clocked now ixl)) command (all_clocked now ixl) ∙ clocked_signals now ixl
 
 step_signals : (now : ℕ) (input : Input) (old new : InterlockingState) (answer : Reply) → HasStepped now input old new answer → length new.state.ixl.known_signals ≡ length old.state.ixl.known_signals
 step_signals now input old new answer step =
@@ -126,15 +125,15 @@ no_more name names are = true≢false (ap is_empty are)
 module _ (closes : (now : ℕ) (table : Table) (ixl : IxlState) (named : Named) → MayBeClosed table ixl named → refusal now table (commands.Close named) ixl ≡ None)
     (closed_by : (c : Closings) (n : Named) (t : Thing) → Names n t ⊎ IsClosed c t → IsClosed (with_named c n) t) where
   accepted : (step : StepTaken) (named : Named) → step.input ≡ Commands (commands.Close named) → NoneSet step.old.state.ixl → IsNamed step.old.state.sited.table step.old.state.ixl named → step.answer ≡ Accepted
-  unfolding as_found
+  unfolding all_clocked
   accepted step named is none there = accepted_so step.now (commands.Close named) step.old step.new step.answer
       (subst (λ input. HasStepped step.now input step.old step.new step.answer) is step.made)
-      (closes step.now step.old.state.sited.table (as_found step.now step.old.state.ixl) named (record {
-        there = named_as step.old.state.sited.table step.old.state.ixl (as_found step.now step.old.state.ixl) named (clocked_signals step.now step.old.state.ixl) there;
+      (closes step.now step.old.state.sited.table (all_clocked step.now step.old.state.ixl) named (record {
+        there = named_as step.old.state.sited.table step.old.state.ixl (all_clocked step.now step.old.state.ixl) named (clocked_signals step.now step.old.state.ixl) there;
         unused = unused;
       }))
     where
-      unused : (number : ℕ) → OfRoute step.old.state.sited.table (as_found step.now step.old.state.ixl) (KeepsOpen step.old.state.sited.table (as_found step.now step.old.state.ixl) named) number → ⊥
+      unused : (number : ℕ) → OfRoute step.old.state.sited.table (all_clocked step.now step.old.state.ixl) (KeepsOpen step.old.state.sited.table (all_clocked step.now step.old.state.ixl) named) number → ⊥
       unused number (row, route, at, (going, inl (thing, names, uses))) = false≢true (sym (none number route at.1) ∙ uses_set number row route thing uses)
       unused number (row, route, at, (going, inr (section, names, (point, side, holds, lies, unknown)))) = false≢true (sym (none number route at.1) ∙ holds.0)
 

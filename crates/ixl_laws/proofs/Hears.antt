@@ -194,8 +194,8 @@ pub record HearsBehind (a b : ClientSoFar) : Type 0 where
   pub peer : b.client.peer ≡ a.client.peer
   pub counts : is_outside b.client.stage ≡ false → IsOfPoint a.client.peer → (moves : List Side) (told : List ObjectState) → Counts a.client.stage moves told → Counts b.client.stage moves (told ++ states_of new)
 
-ended_hears : (now : ℕ) (a b : ClientSoFar) → Hears a b → HearsBehind a (ending now b)
-ended_hears now a b hears = record {
+ended_hears : (a b : ClientSoFar) → Hears a b → HearsBehind a (ending b)
+ended_hears a b hears = record {
   new = hears.new;
   heard = hears.heard;
   peer = fallen_peer b.client ∙ hears.peer;
@@ -209,5 +209,5 @@ hearing_hears now bytes a =
     in let items = (receiving now bytes a.client.link).items
     in let risen : ClientSoFar = rising now received
     in let done : ClientSoFar = acting_all now items risen
-    in ended_hears now a done (hears_then a received done (hears_same a received refl refl refl)
+    in ended_hears a done (hears_then a received done (hears_same a received refl refl refl)
     (hears_then received risen done (rising_hears now received) (all_heard now items risen)))

@@ -3,13 +3,12 @@ use Rattle.std.proofs.Common.{◌≡◌, ◌⊎◌, inl, inr, ℕ, zero, suc, Bo
 use Rattle.std.specs.Prelude.{◌==◌, ◌&&◌, ◌||◌, not, Option, Some, None, slice_get}
 use Rattle.std.proofs.lemmas.Bool.{eq-eqb, eqb-true, false≢true, true≢false}
 use Rattle.ixl_state.specs.release.Passage.{PassageState, after_look, passage_after}
-use Rattle.ixl_state.specs.release.Reports.{clear_since_after}
 use Rattle.ixl_state.specs.ixl_spec.StepSoFar.{StepSoFar, along, at_route, giving_aspect, giving_move, over, with_route}
 use Rattle.ixl_state.specs.ixl_spec.Rules.{authorised, come_to, count, ending_authority, freed, freeing_by_cancel, freeing_by_passage, freeing_next, frees_cancelled, frees_next, is_move_due, is_proceed_due, is_proceeding, is_stop_due, is_waiting, is_withdrawn, moving, moving_one, one_freed, proceeding, ruled, stopped, withdrawing}
 use Rattle.ixl_state.specs.ixl_spec.State.{IxlState, KnownDetectorState, RouteState, changed}
-use Rattle.ixl_state.specs.ixl_spec.Step.{Commands, Datagram, Input, Tick, detector_ticking, known_point_ticking, known_signal_ticking, looking, looking_by, noting, route_looks, ticked, watching}
+use Rattle.ixl_state.specs.ixl_spec.Step.{Commands, Datagram, Input, Tick, detector_ticking, known_point_ticking, known_signal_ticking, looking, looking_by, route_looks, ticked, watching}
 use Rattle.ixl_state.specs.ixl_spec.Table.{Need, Row, Table}
-use Rattle.ixl_state.specs.ixl_spec.View.{all_clear, has_authority, is_approach_clear, is_at_known_stop, is_clear, is_set, is_signal_ready, place_in, was_authorised}
+use Rattle.ixl_state.specs.ixl_spec.View.{has_authority, is_approach_clear, is_at_known_stop, is_clear, is_set, is_signal_ready, place_in, was_authorised}
 use Rattle.ixl_state.specs.ixl_spec.declared.phase.Phase.{Phase}
 use Rattle.ixl_state.specs.ixl_spec.declared.phase.Phase.TheVariants as phase
 use Rattle.ixl_laws.proofs.RoutesGoOn.{looks_phase}
@@ -81,14 +80,14 @@ pub record Stays (fact : RouteState → Type 0) : Type 0 where
   pub frees : (route : RouteState) → fact route → fact (freed route)
 
 module _ (number : ℕ) where
-  pub elsewhere : (fact : RouteState → Type 0) (other : ℕ) (change : RouteState → RouteState) (part : StepSoFar) → (other ≡ number → ⊥) → Of number fact part → Of number fact (with_route other change part)
+  elsewhere : (fact : RouteState → Type 0) (other : ℕ) (change : RouteState → RouteState) (part : StepSoFar) → (other ≡ number → ⊥) → Of number fact part → Of number fact (with_route other change part)
   elsewhere fact other change part apart is = (is.0, changed_elsewhere change other number part.ixl.routes (λ same. apart (sym same)) ∙ is.1, is.2)
 
-  pub here : (fact after : RouteState → Type 0) (change : RouteState → RouteState) (part : StepSoFar) → Of number fact part → ((route : RouteState) → fact route → after (change route)) → Of number after (with_route number change part)
+  here : (fact after : RouteState → Type 0) (change : RouteState → RouteState) (part : StepSoFar) → Of number fact part → ((route : RouteState) → fact route → after (change route)) → Of number after (with_route number change part)
   here fact after change part is changes = (change is.0, changed_there change number part.ixl.routes is.0 is.1, changes is.0 is.2)
 
   -- a change of a route that keeps the fact where it is this one
-  pub changing : (fact : RouteState → Type 0) (other : ℕ) (change : RouteState → RouteState) (part : StepSoFar) (route : RouteState) → slice_get part.ixl.routes other ≡ Some route → (fact route → fact (change route)) →
+  changing : (fact : RouteState → Type 0) (other : ℕ) (change : RouteState → RouteState) (part : StepSoFar) (route : RouteState) → slice_get part.ixl.routes other ≡ Some route → (fact route → fact (change route)) →
       Of number fact part → Of number fact (with_route other change part)
   changing fact other change part route there keeps is = by_number (other == number) refl where
     by_number : (b : Bool) → (other == number) ≡ b → Of number fact (with_route other change part)
@@ -106,7 +105,7 @@ module _ (number : ℕ) where
     by_number false apart = elsewhere fact other change part (λ same. false≢true (sym apart ∙ eq-eqb other number same)) is
     by_number true same = subst (λ n. Of number fact (with_route n change part)) (sym (eqb-true other number same)) (here fact fact change part is (keeps (eqb-true other number same)))
 
-  pub at_route_of : (fact : RouteState → Type 0) (table : Table) (other : ℕ) (does : Row → RouteState → StepSoFar → StepSoFar) (part : StepSoFar) →
+  at_route_of : (fact : RouteState → Type 0) (table : Table) (other : ℕ) (does : Row → RouteState → StepSoFar → StepSoFar) (part : StepSoFar) →
       ((row : Row) (route : RouteState) → slice_get part.ixl.routes other ≡ Some route → Of number fact (does row route part)) → Of number fact part → Of number fact (at_route table other does part)
   unfolding at_route
   at_route_of fact table other does part each is =
@@ -200,53 +199,50 @@ module _ (number : ℕ) where
 
 -- ---- a route that was authorised before the rules
 
--- it was freed, or is authorised, and this is so of it
-abbrev pub KeptAs : (RouteState → Type 0) → RouteState → Type 0
-KeptAs fact route = (is_set route.phase ≡ false) ⊎ ((was_authorised route.phase ≡ true) × fact route)
-
 -- it was freed, or is kept as it was
 abbrev pub IsKept : PassageState → Bool → RouteState → Type 0
-IsKept passage approached = KeptAs (λ (route : RouteState). (route.passage ≡ passage) × (route.approached ≡ approached))
+IsKept passage approached route = (is_set route.phase ≡ false) ⊎ ((was_authorised route.phase ≡ true) × (route.passage ≡ passage) × (route.approached ≡ approached))
+
+kept_past : (passage : PassageState) (approached : Bool) (p : Phase) (route : RouteState) → was_authorised p ≡ true → is_set route.phase ≡ true → IsKept passage approached route → IsKept passage approached (come_to p route)
+kept_past passage approached p route authorised set (inl free) = absurd (true≢false (sym set ∙ free))
+kept_past passage approached p route authorised set (inr is) = inr (authorised, is.1, is.2)
+
+next_kept : (passage : PassageState) (approached : Bool) (table : Table) (ixl : IxlState) (row : Row) (route : RouteState) (p : Phase) → route.phase ≡ p → frees_next table ixl row route p ≡ true → IsKept passage approached route →
+    IsKept passage approached (one_freed row p route)
+next_kept passage approached table ixl row route phase.Free at is kept = absurd (false≢true is)
+next_kept passage approached table ixl row route phase.Waiting at is kept = absurd (false≢true is)
+next_kept passage approached table ixl row route phase.Proceeding at is kept = absurd (false≢true is)
+next_kept passage approached table ixl row route phase.Withdrawn at is kept = absurd (false≢true is)
+next_kept passage approached table ixl row route (phase.Ended clock done) at is kept = either (IsKept passage approached) (suc done == length row.sections) _ _ (inl refl)
+    (kept_past passage approached (phase.Ended clock (suc done)) route refl (ap is_set at) kept)
+
+kept_stays : (passage : PassageState) (approached : Bool) → Stays (IsKept passage approached)
+kept_stays passage approached = record {
+  withdrawn = λ route is kept. kept_past passage approached phase.Withdrawn route refl (authorised_set route.phase (proceeding_authorised route.phase is)) kept;
+  ended = λ now route is kept. kept_past passage approached (phase.Ended now 0) route refl (authorised_set route.phase (withdrawn_authorised route.phase is)) kept;
+  next = λ table ixl row route is kept. next_kept passage approached table ixl row route route.phase refl is kept;
+  frees = λ route kept. inl refl;
+}
+
+waiting_not_kept : (passage : PassageState) (approached : Bool) (route : RouteState) → is_waiting route.phase ≡ true → IsKept passage approached route → ⊥
+waiting_not_kept passage approached route waits (inl free) = true≢false (sym (waiting_set route.phase waits) ∙ free)
+waiting_not_kept passage approached route waits (inr is) = true≢false (sym is.0 ∙ waiting_unauthorised route.phase waits)
 
 due_waits : (now : ℕ) (table : Table) (ixl : IxlState) (row : Row) (route : RouteState) → is_proceed_due now table ixl row route ≡ true → is_waiting route.phase ≡ true
 due_waits now table ixl row route due = (both _ _ (both _ _ (both _ _ (both _ _ (both _ _ due).0).0).0).0).0
 
--- it stays so wherever its phase changes
-module _ (fact : RouteState → Type 0) (keeps : (p : Phase) (route : RouteState) → fact route → fact (come_to p route)) where
-  kept_past : (p : Phase) (route : RouteState) → was_authorised p ≡ true → is_set route.phase ≡ true → KeptAs fact route → KeptAs fact (come_to p route)
-  kept_past p route authorised set (inl free) = absurd (true≢false (sym set ∙ free))
-  kept_past p route authorised set (inr is) = inr (authorised, keeps p route is.1)
+module _ (number : ℕ) (now : ℕ) (table : Table) where
+  proceeding_of : (passage : PassageState) (approached : Bool) (other : ℕ) (part : StepSoFar) → Of number (IsKept passage approached) part → Of number (IsKept passage approached) (proceeding now table other part)
+  unfolding proceeding
+  proceeding_of passage approached other part is = at_route_of number (IsKept passage approached) table other _ part (λ row route there.
+      picked (Of number (IsKept passage approached)) (is_proceed_due now table part.ixl row route) _ _
+      (λ due. aspect_of number (IsKept passage approached) now row.entry row.aspect _ (changing number (IsKept passage approached) other (authorised table part.ixl row) part route there
+      (λ kept. absurd (waiting_not_kept passage approached route (due_waits now table part.ixl row route due) kept)) is)) (λ none. is)) is
 
-  next_kept : (table : Table) (ixl : IxlState) (row : Row) (route : RouteState) (p : Phase) → route.phase ≡ p → frees_next table ixl row route p ≡ true → KeptAs fact route → KeptAs fact (one_freed row p route)
-  next_kept table ixl row route phase.Free at is kept = absurd (false≢true is)
-  next_kept table ixl row route phase.Waiting at is kept = absurd (false≢true is)
-  next_kept table ixl row route phase.Proceeding at is kept = absurd (false≢true is)
-  next_kept table ixl row route phase.Withdrawn at is kept = absurd (false≢true is)
-  next_kept table ixl row route (phase.Ended clock done) at is kept = either (KeptAs fact) (suc done == length row.sections) _ _ (inl refl)
-      (kept_past (phase.Ended clock (suc done)) route refl (ap is_set at) kept)
-
-  kept_stays : Stays (KeptAs fact)
-  kept_stays = record {
-    withdrawn = λ route is kept. kept_past phase.Withdrawn route refl (authorised_set route.phase (proceeding_authorised route.phase is)) kept;
-    ended = λ now route is kept. kept_past (phase.Ended now 0) route refl (authorised_set route.phase (withdrawn_authorised route.phase is)) kept;
-    next = λ table ixl row route is kept. next_kept table ixl row route route.phase refl is kept;
-    frees = λ route kept. inl refl;
-  }
-
-  waiting_not_kept : (route : RouteState) → is_waiting route.phase ≡ true → KeptAs fact route → ⊥
-  waiting_not_kept route waits (inl free) = true≢false (sym (waiting_set route.phase waits) ∙ free)
-  waiting_not_kept route waits (inr is) = true≢false (sym is.0 ∙ waiting_unauthorised route.phase waits)
-
-  module _ (number : ℕ) (now : ℕ) (table : Table) where
-    proceeding_of : (other : ℕ) (part : StepSoFar) → Of number (KeptAs fact) part → Of number (KeptAs fact) (proceeding now table other part)
-    unfolding proceeding
-    proceeding_of other part is = at_route_of number (KeptAs fact) table other _ part (λ row route there.
-        picked (Of number (KeptAs fact)) (is_proceed_due now table part.ixl row route) _ _
-        (λ due. aspect_of number (KeptAs fact) now row.entry row.aspect _ (changing number (KeptAs fact) other (authorised table part.ixl row) part route there
-        (λ kept. absurd (waiting_not_kept route (due_waits now table part.ixl row route due) kept)) is)) (λ none. is)) is
-
-    pub ruled_kept : (part : StepSoFar) → Of number (KeptAs fact) part → Of number (KeptAs fact) (ruled now table part)
-    ruled_kept part is = over_holds (Of number (KeptAs fact)) (proceeding now table) proceeding_of (count table) _ (moved_of number (KeptAs fact) kept_stays now table part is)
+  pub ruled_kept : (passage : PassageState) (approached : Bool) (part : StepSoFar) → Of number (IsKept passage approached) part → Of number (IsKept passage approached) (ruled now table part)
+  ruled_kept passage approached part is =
+      over_holds (Of number (IsKept passage approached)) (proceeding now table) (proceeding_of passage approached) (count table) _
+      (moved_of number (IsKept passage approached) (kept_stays passage approached) now table part is)
 
 -- ---- a route without authority before the rules
 
@@ -347,13 +343,6 @@ module _ (number : ℕ) (now : ℕ) (table : Table) (row : Row) (there : slice_g
         either (Of number fact) (is_proceeding route.phase || is_withdrawn route.phase) _ _ (elsewhere number fact other _ part apart is.1) is.1) is.1,
   )
 
-  -- what is noted changes nothing else
-  noting_keeps : (fact : RouteState → Type 0) → ((since : Option ℕ) (route : RouteState) → fact route → fact (record route { clear_since = since })) → (other : ℕ) (part : StepSoFar) → Of number fact part → Of number fact (noting now table other part)
-  unfolding noting
-  noting_keeps fact keeps other part is = at_route_of number fact table other _ part (λ r route found.
-      either (Of number fact) (table.is_strict && was_authorised route.phase) _ _
-      (changing number fact other (λ old. record old { clear_since = clear_since_after now (all_clear table part.ixl r.sections) old.clear_since }) part route found (keeps _ route) is) is) is
-
   module _ (p : Phase) (passage : PassageState) (approached : Bool) where
     watching_here : (part : StepSoFar) → With detectors (Of number (Keeps p passage approached)) part → With detectors (Of number (Keeps p passage (watched p (is_approach_clear table first row) approached))) (watching table number part)
     unfolding watching
@@ -379,10 +368,8 @@ module _ (number : ℕ) (now : ℕ) (table : Table) (row : Row) (there : slice_g
             )))
         by_phase false at = rw (authority ∙ at) (is.1.0, is.1.1, (is.1.2.0, is.1.2.1, is.1.2.2 ∙ ap (λ b. if b then approached || not (is_approach_clear table first row) else approached) (sym at)))
 
-    pub seen_watched : (part : StepSoFar) → number < count table → With detectors (Of number (Keeps p passage approached)) part →
-        Of number (Keeps p passage (watched p (is_approach_clear table first row) approached)) (over (noting now table) (count table) (over (watching table) (count table) part))
-    seen_watched part within is = over_holds (Of number (Keeps p passage (watched p (is_approach_clear table first row) approached))) (noting now table)
-        (noting_keeps (Keeps p passage (watched p (is_approach_clear table first row) approached)) (λ since route kept. kept)) (count table) _ (over_once number (watching table) (With detectors (Of number (Keeps p passage approached))) (With detectors (Of number (Keeps p passage (watched p (is_approach_clear table first row) approached))))
+    pub seen_watched : (part : StepSoFar) → number < count table → With detectors (Of number (Keeps p passage approached)) part → Of number (Keeps p passage (watched p (is_approach_clear table first row) approached)) (over (watching table) (count table) part)
+    seen_watched part within is = (over_once number (watching table) (With detectors (Of number (Keeps p passage approached))) (With detectors (Of number (Keeps p passage (watched p (is_approach_clear table first row) approached))))
         (watching_elsewhere (Keeps p passage approached)) (watching_elsewhere (Keeps p passage (watched p (is_approach_clear table first row) approached))) watching_here (count table) part within is).1
 
   -- one that was never authorised stays so
@@ -391,12 +378,8 @@ module _ (number : ℕ) (now : ℕ) (table : Table) (row : Row) (there : slice_g
   watching_unauthorised other part is = at_route_of number IsUnauthorised table other _ part (λ r route found.
       either (Of number IsUnauthorised) (is_proceeding route.phase || is_withdrawn route.phase) _ _ (changing number IsUnauthorised other _ part route found (λ not_yet. not_yet) is) is) is
 
-  pub seen_unauthorised : (part : StepSoFar) → With detectors (Of number IsUnauthorised) part → With detectors (Of number IsUnauthorised) (over (noting now table) (count table) (over (watching table) (count table) part))
-  seen_unauthorised part is = (
-    seen_holds (Has detectors) (λ n change p holds. holds) table now part is.0,
-    over_holds (Of number IsUnauthorised) (noting now table) (noting_keeps IsUnauthorised (λ since route not_yet. not_yet)) (count table) _
-        (over_holds (Of number IsUnauthorised) (watching table) watching_unauthorised (count table) part is.1),
-  )
+  pub seen_unauthorised : (part : StepSoFar) → With detectors (Of number IsUnauthorised) part → With detectors (Of number IsUnauthorised) (over (watching table) (count table) part)
+  seen_unauthorised part is = (seen_holds (Has detectors) (λ n change p holds. holds) table part is.0, over_holds (Of number IsUnauthorised) (watching table) watching_unauthorised (count table) part is.1)
 
   -- ---- looks
 

@@ -17,10 +17,10 @@ use Rattle.ixl_state.specs.ixl_client.declared.command.Command.TheVariants as gi
 use Rattle.ixl_state.specs.ixl_client.declared.indication.Indication.{Indication}
 use Rattle.ixl_state.specs.ixl_spec.Commands.{commanded_by, moved_at_once, obeyed, refusal, released_at, set_anew}
 use Rattle.ixl_state.specs.ixl_spec.Due.{At, IsClear}
-use Rattle.ixl_state.specs.ixl_spec.StepSoFar.{Detector, Node, Point, Signal, StepSoFar, along, detector_after, giving_aspect, giving_move, noted, with_detector, with_one}
+use Rattle.ixl_state.specs.ixl_spec.StepSoFar.{Detector, Node, Point, Signal, StepSoFar, along, begun_with, detector_after, empty_outbox, giving_aspect, giving_move, noted, with_detector, with_one}
 use Rattle.ixl_state.specs.ixl_spec.Rules.{count}
 use Rattle.ixl_state.specs.ixl_spec.State.{IxlState, KnownDetectorState, RouteState}
-use Rattle.ixl_state.specs.ixl_spec.Step.{Commands, Datagram, Input, Reply, Tick, addressed, client_at, detector_hearing, given, known_point_hearing, known_signal_hearing, looking, looks, node_hearing, occupied_heard, stepped, ticked, told_before, told_now}
+use Rattle.ixl_state.specs.ixl_spec.Step.{Commands, Datagram, Input, Reply, Tick, addressed, all_clocked, client_at, detector_hearing, given, known_point_hearing, known_signal_hearing, looking, looks, node_hearing, occupied_heard, stepped, ticked, told_before, told_now}
 use Rattle.ixl_state.specs.ixl_spec.Table.{Row, Table, at, passes}
 use Rattle.ixl_state.specs.ixl_spec.View.{has_authority, is_approach_clear, is_clear, was_authorised}
 use Rattle.ixl_state.specs.ixl_spec.declared.command.Command.{Command}
@@ -31,16 +31,13 @@ use Rattle.ixl.specs.Interlocking.{HasStepped, InterlockingState, step_of}
 use Rattle.ixl_laws.specs.Called.{acted_at}
 use Rattle.ixl_laws.specs.History.{BeginsTold, GoesOnTold, History, IsApproachClear, TellsOf, told_by_detector, told_by_node, told_in, told_if_listed, kept_of, last_told, reports_of}
 use Rattle.ixl_laws.specs.Nodes.{of_node}
-use Rattle.ixl_laws.specs.WholeStep.{clock_left}
 use Rattle.ixl_laws.proofs.CalledSteps.{commanding_acts}
-use Rattle.ixl_laws.proofs.ClosedFirst.{left_unacted}
 use Rattle.ixl_laws.proofs.Clients.{becomes_there, detection_at, detector_client, detector_kept}
-use Rattle.ixl_laws.proofs.Found.{found_is, left_routes}
 use Rattle.ixl_laws.proofs.RoutesGoOn.{request_free}
 use Rattle.ixl_laws.proofs.OnPath.{found_at}
 use Rattle.ixl_laws.proofs.HistoryLists.{approached_more, before_told, begins_approached, look_all, looks_at, looks_joined, now_told, occupied_is, seen_after, seen_is, seen_more, told_last}
 use Rattle.ixl_laws.proofs.HistoryParts.{Has, HasBegun, IsKept, IsUnauthorised, Keeps, Of, along_looks, along_unauthorised, authorised_set, changes_has, changing_all, move_of, ruled_begins, ruled_kept, seen_unauthorised, seen_watched, ticked_of, watched}
-use Rattle.ixl_laws.proofs.Nodes.{noted_here}
+use Rattle.ixl_laws.proofs.Nodes.{node_self, of_itself}
 use Rattle.ixl_laws.proofs.PickedByTest.{both, none_is, some_same}
 use Rattle.ixl_laws.proofs.Ruled.{IsKeptByChanges, looking_holds, along_holds, ruled_holds, seen_holds, with_one_holds}
 
@@ -58,7 +55,7 @@ both_is true true = (λ passed. absurd (false≢true passed), λ is. absurd (tru
 both_is true false = (λ passed. (refl, refl), λ is. refl)
 both_is false b = (λ passed. absurd (false≢true passed), λ is. absurd (false≢true is.0))
 
-pub clear_is : (table : Table) (ixl : IxlState) (section : ℕ) → is_clear table ixl section ≡ true ↔ IsClear table ixl section
+clear_is : (table : Table) (ixl : IxlState) (section : ℕ) → is_clear table ixl section ≡ true ↔ IsClear table ixl section
 unfolding is_clear
 clear_is table ixl section = at_is table.reporters section _ _ (λ reporter. at_is ixl.detectors reporter.0 _ _ (λ detector. both_is (is_ready detector.client.stage) (contains detector.occupied reporter.1)))
 
@@ -82,7 +79,7 @@ approach_is table ixl row = (to, back) where
   back : IsApproachClear table ixl row → is_approach_clear table ixl row ≡ true
   back is = rw ((some_there row.approach).1 is.0) (list_all-from_AllPass (is_clear table ixl) row.approach (λ place other within. (clear_is table ixl _).1 (is.1 place other within)))
 
-pub is_within : {A : Type 0} (list : List A) (place : ℕ) (one : A) → slice_get list place ≡ Some one → place < length list
+is_within : {A : Type 0} (list : List A) (place : ℕ) (one : A) → slice_get list place ≡ Some one → place < length list
 is_within [] place one is = absurd (none_is is)
 is_within (first ∷ others) zero one is = omega arith
 is_within (first ∷ others) (suc place) one is = omega (arith, is_within others place one is)
@@ -132,17 +129,18 @@ module _ (now : ℕ) (acts : (bytes : List ℕ) (part : client.ClientSoFar) → 
   abbrev table : Table
   table = old.state.sited.table
 
-  abbrev first : StepSoFar
-  first = clock_left now old
-
   abbrev clocked : IxlState
-  clocked = first.ixl
+  clocked = all_clocked now old.state.ixl
+
+  abbrev first : StepSoFar
+  first = begun_with clocked empty_outbox
 
   abbrev heard : Input → StepSoFar
   heard input = given now table (key_of old.state.sited.site) input first
 
   same_routes : clocked.routes ≡ old.state.ixl.routes
-  same_routes = left_routes now old
+  unfolding all_clocked
+  same_routes = refl
 
   module _ (number : ℕ) (row : Row) (there : slice_get table.rows number ≡ Some row) where
     within : number < count table
@@ -223,7 +221,7 @@ module _ (now : ℕ) (acts : (bytes : List ℕ) (part : client.ClientSoFar) → 
           module _ (answer : Reply) (step : HasStepped now (Datagram bytes) old new answer) (sender : addressed (reading (key_of old.state.sited.site) bytes) clocked ≡ Some (Detector place))
               (sections : List ℕ) (listed : slice_get table.detectors place ≡ Some sections) (detector : KnownDetectorState) (kept : slice_get clocked.detectors place ≡ Some detector) where
             abbrev done : client.ClientSoFar
-            done = hearing now bytes (begun detector.client first.outbox)
+            done = hearing now bytes (begun detector.client empty_outbox)
 
             abbrev base : StepSoFar
             base = with_detector place (detector_after (occupied_heard done.heard detector.occupied) done.client) (noted (Detector place) done first)
@@ -236,7 +234,7 @@ module _ (now : ℕ) (acts : (bytes : List ℕ) (part : client.ClientSoFar) → 
 
             behind : (Holds : StepSoFar → Type 0) → IsKeptByChanges now Holds → Holds base → Holds (step_of now (Datagram bytes) old.state)
             unfolding stepped ticked
-            behind Holds keeps is = ruled_holds Holds now keeps table _ (seen_holds Holds keeps.route table now (heard (Datagram bytes)) (subst Holds (sym heard_is)
+            behind Holds keeps is = ruled_holds Holds now keeps table _ (seen_holds Holds keeps.route table (heard (Datagram bytes)) (subst Holds (sym heard_is)
                 (along_holds Holds (looking table) (looking_holds Holds keeps.route table) (looks sections detector done.heard done.client) base is)))
 
             detectors_are : new.state.ixl.detectors ≡ base.ixl.detectors
@@ -248,11 +246,10 @@ module _ (now : ℕ) (acts : (bytes : List ℕ) (part : client.ClientSoFar) → 
                 ∙ ap Some (detector_client (occupied_heard done.heard detector.occupied) done.client)
 
             acted_is : acted_at now (Datagram bytes) old (Detector place) ≡ done.acted
-            acted_is = ap (of_node (Detector place)) (behind (Acts base.acted) (changes_acts base.acted now) refl) ∙ noted_here (Detector place) first.acted done.acted
-                ∙ ap (λ items. items ++ done.acted) (left_unacted now old (Detector place))
+            acted_is = ap (of_node (Detector place)) (behind (Acts base.acted) (changes_acts base.acted now) refl) ∙ of_itself (Detector place) (Detector place) done.acted (node_self (Detector place))
 
             told_is : told_by_all detector.client.peer (acted_at now (Datagram bytes) old (Detector place)) ≡ done.heard
-            told_is = let acting = acts bytes (begun detector.client first.outbox) in ap (told_by_all detector.client.peer) (acted_is ∙ acting.acted) ∙ sym acting.heard
+            told_is = let acting = acts bytes (begun detector.client empty_outbox) in ap (told_by_all detector.client.peer) (acted_is ∙ acting.acted) ∙ sym acting.heard
 
             detector_tells : Tells (Some sections) (Some detector)
             detector_tells = record {
@@ -267,12 +264,7 @@ module _ (now : ℕ) (acts : (bytes : List ℕ) (part : client.ClientSoFar) → 
           unfolding node_hearing detector_hearing look_all looks_at
           told_by_detection answer step sender =
               let told = by_sections (slice_get table.detectors place) refl
-              in record {
-                looks = told.looks;
-                of = told.of;
-                are = λ section. told.are section ∙ ap (λ (ixl : IxlState). told_if_listed section (slice_get table.detectors place) (slice_get ixl.detectors place) (client_at (Detector place) new.state.ixl)
-                    (acted_at now (Datagram bytes) old (Detector place))) (found_is now old);
-              }
+              in record { looks = told.looks; of = told.of; are = told.are }
             where
               by_detector : (sections : List ℕ) → slice_get table.detectors place ≡ Some sections → (kept : Option KnownDetectorState) → slice_get clocked.detectors place ≡ kept → Tells (Some sections) kept
               by_detector sections listed None none = record { looks = []; of = starts; are = λ section. refl }
@@ -301,11 +293,7 @@ module _ (now : ℕ) (acts : (bytes : List ℕ) (part : client.ClientSoFar) → 
         unfolding given
         told_datagram answer step =
             let told = told_by answer step (addressed (reading (key_of old.state.sited.site) bytes) clocked) refl
-            in record {
-              looks = told.looks;
-              of = told.of;
-              are = λ section. told.are section ∙ ap (λ (ixl : IxlState). told_by_node now (Datagram bytes) old new section (addressed (reading (key_of old.state.sited.site) bytes) ixl)) (found_is now old);
-            }
+            in record { looks = told.looks; of = told.of; are = told.are }
 
       told_of : (input : Input) (new : InterlockingState) (answer : Reply) → HasStepped now input old new answer → Told input new
       told_of Tick new answer step = told_tick new
@@ -332,7 +320,7 @@ module _ (now : ℕ) (acts : (bytes : List ℕ) (part : client.ClientSoFar) → 
         unfolding stepped
         ends =
             let seen = seen_watched number now table row there (heard input).ixl.detectors (heard input).ixl refl before.phase passage before.approached (heard input) within (refl, told.of)
-            in ticked_of number (IsKept passage approached) now input _ (ruled_kept (λ (route : RouteState). (route.passage ≡ passage) × (route.approached ≡ approached)) (λ p route kept. kept) number now table _ (seen.0, seen.1, inr (ap was_authorised seen.2.0 ∙ authorised, (seen.2.1, seen.2.2))))
+            in ticked_of number (IsKept passage approached) now input _ (ruled_kept number now table passage approached _ (seen.0, seen.1, inr (ap was_authorised seen.2.0 ∙ authorised, seen.2.1, seen.2.2)))
 
         kept : IsKept passage approached after
         kept = subst (IsKept passage approached) (some_same (sym ends.1 ∙ ap (λ (ixl : IxlState). slice_get ixl.routes number) (sym step.ixl) ∙ also)) ends.2
@@ -341,7 +329,7 @@ module _ (now : ℕ) (acts : (bytes : List ℕ) (part : client.ClientSoFar) → 
         kept_is = by_kept kept where
           by_kept : IsKept passage approached after → (after.passage ≡ passage) × (after.approached ≡ approached)
           by_kept (inl free) = absurd (true≢false (sym (authorised_set after.phase still) ∙ free))
-          by_kept (inr is) = is.1
+          by_kept (inr is) = (is.1, is.2)
 
         watched_more : (stood : List Bool) → (before.approached ≡ true ↔ Contains stood false) → (b : Bool) →
             (if b then before.approached || not clear else before.approached) ≡ true ↔ Contains (if b then stood ++ clear ∷ [] else stood) false
@@ -387,7 +375,7 @@ module _ (now : ℕ) (acts : (bytes : List ℕ) (part : client.ClientSoFar) → 
       node_without bytes (Point place) = with_one_holds (Of number IsUnauthorised) (slice_get clocked.known_points place) _ first (λ known_point found. (starts_without.0, starts_without.1, starts_without.2)) starts_without
       node_without bytes (Detector place) = with_one_holds (Of number IsUnauthorised) (slice_get table.detectors place) _ first (λ sections listed.
           with_one_holds (Of number IsUnauthorised) (slice_get clocked.detectors place) _ first (λ detector found.
-          let done = hearing now bytes (begun detector.client first.outbox)
+          let done = hearing now bytes (begun detector.client empty_outbox)
           in along_unauthorised number now table row there clocked.detectors clocked refl (looks sections detector done.heard done.client)
           (with_detector place (detector_after (occupied_heard done.heard detector.occupied) done.client) (noted (Detector place) done first)) (starts_without.0, starts_without.1, starts_without.2)) starts_without) starts_without
 

@@ -18,7 +18,7 @@ use Rattle.ixl_state.specs.ixl_spec.OperationCauses.{MayBeClosed}
 use Rattle.ixl_state.specs.ixl_spec.Operations.{things_used}
 use Rattle.ixl_state.specs.ixl_spec.State.{IxlState, RouteState}
 use Rattle.ixl_state.specs.ixl_spec.StepSoFar.{begun_with, empty_outbox}
-use Rattle.ixl_state.specs.ixl_spec.Step.{Commands, Datagram, Input, Reply, Tick, as_found, given, stepped}
+use Rattle.ixl_state.specs.ixl_spec.Step.{Commands, Datagram, Input, Reply, Tick, all_clocked, given, stepped}
 use Rattle.ixl_state.specs.ixl_spec.Table.{Row, SitedTable, Table}
 use Rattle.ixl_state.specs.ixl_spec.View.{is_set}
 use Rattle.ixl_state.specs.ixl_spec.declared.command.Command.{Command}
@@ -28,7 +28,6 @@ use Rattle.ixl_state.specs.ixl_spec.declared.phase.Phase.{Phase}
 use Rattle.ixl_state.specs.First.{Beginning, key_of, new_ixl, new_route_of}
 use Rattle.ixl.specs.Interlocking.{HasStepped, InterlockingState}
 use Rattle.ixl_laws.specs.Operations.{NothingClosedIsUsed}
-use Rattle.ixl_laws.proofs.Found.{found_in}
 use Rattle.ixl_laws.proofs.KeptBehind.{behind_input, command_stays, left_by, others_stay, stepped_stays}
 use Rattle.ixl_laws.proofs.PickedByTest.{some_same}
 use Rattle.ixl_laws.proofs.UnsoundFalls.{mapped_from}
@@ -109,15 +108,15 @@ module _ (admits : (now : ℕ) (table : Table) (ixl : IxlState) (route : RouteId
   left_unused now table None command ixl told unused = obeyed_unused now table command ixl told unused
 
   pub input_unused : (now : ℕ) (table : Table) (key : Key) (input : Input) (ixl : IxlState) → NothingClosedIsUsed table ixl → NothingClosedIsUsed table (behind_input now table key input ixl).ixl
-  unfolding given as_found
-  input_unused now table key Tick ixl unused = subst (NothingClosedIsUsed table) (sym (found_in now ixl)) unused
+  unfolding given all_clocked
+  input_unused now table key Tick ixl unused = unused
   input_unused now table key (Datagram bytes) ixl unused =
       let stays = others_stay now table key bytes ixl
       in unused_still table ixl (behind_input now table key (Datagram bytes) ixl).ixl stays.closed_is stays.follow unused
   input_unused now table key (Commands command) ixl unused =
       let stays = command_stays now table key command ixl
       in unused_still table (left_by now table command ixl) (behind_input now table key (Commands command) ixl).ixl stays.closed_is stays.follow
-      (left_unused now table (refusal now table command (as_found now ixl)) command (as_found now ixl) refl unused)
+      (left_unused now table (refusal now table command (all_clocked now ixl)) command (all_clocked now ixl) refl unused)
 
   pub step_unused : (now : ℕ) (input : Input) (old new : InterlockingState) (answer : Reply) → HasStepped now input old new answer →
       NothingClosedIsUsed old.state.sited.table old.state.ixl → NothingClosedIsUsed new.state.sited.table new.state.ixl

@@ -17,7 +17,7 @@ use Rattle.ixl_state.specs.ixl_client.declared.command.Command.TheVariants as te
 use Rattle.ixl_state.specs.ixl_spec.Commands.{commanded_by, moved_at_once, obeyed, refusal}
 use Rattle.ixl_state.specs.ixl_spec.Rules.{authorised, come_to, count, ending_authority, freed, freeing_by_cancel, freeing_by_passage, freeing_next, frees_cancelled, frees_next, is_move_due, is_proceed_due, is_proceeding, is_stop_due, is_withdrawn, moving, moving_one, one_freed, proceeding, repeated, ruled, stopped, withdrawing}
 use Rattle.ixl_state.specs.ixl_spec.State.{IxlState, KnownSignalState, RouteState}
-use Rattle.ixl_state.specs.ixl_spec.Step.{Commands, Datagram, Input, Reply, Tick, addressed, answer_by, as_found, detector_hearing, detector_ticking, given, indicated_heard, known_point_hearing, known_point_ticking, known_signal_hearing, known_signal_ticking, looking, looking_by, looks, node_hearing, noting, occupied_heard, reply, route_looks, stepped, ticked, watching}
+use Rattle.ixl_state.specs.ixl_spec.Step.{Commands, Datagram, Input, Reply, Tick, addressed, all_clocked, answer_by, detector_hearing, detector_ticking, given, indicated_heard, known_point_hearing, known_point_ticking, known_signal_hearing, known_signal_ticking, looking, looking_by, looks, node_hearing, occupied_heard, reply, route_looks, stepped, ticked, watching}
 use Rattle.ixl_state.specs.ixl_spec.StepSoFar.{Detector, Node, StepSoFar, Point, Signal, along, at_route, begun_with, detector_after, empty_outbox, giving_aspect, giving_move, known_signal_after, noted, over, with_detector, with_known_signal, with_one, with_route}
 use Rattle.ixl_state.specs.ixl_spec.Table.{Need, Row, Table}
 use Rattle.ixl_state.specs.ixl_spec.View.{is_at_known_stop, is_signal_ready, was_authorised}
@@ -33,7 +33,6 @@ use Rattle.ixl_laws.specs.Operations.{closed_after}
 use Rattle.ixl_laws.proofs.Following.{Follows, FollowsAll, all_follow_as, all_follow_changed, all_follow_same, follows_authorised, follows_freed, follows_look, follows_next, follows_to}
 use Rattle.ixl_laws.proofs.Onward.{onward_same}
 use Rattle.ixl_laws.proofs.PickedByTest.{both, either, picked, some_same}
-use Rattle.ixl_laws.proofs.Found.{found_in, left_in}
 use Rattle.ixl_laws.proofs.RoutesGoOn.{from_proceeding, from_waiting, from_withdrawn}
 use Rattle.ixl_laws.proofs.WholeFits.{changed_length}
 
@@ -198,12 +197,6 @@ module _ (closed : Closings) (signals : ℕ) (routes : List RouteState) where
       either Stays (is_proceeding route.phase || is_withdrawn route.phase) _ _
       (route_stays number _ part (λ other also. record { onward = onward_same other.phase; cancelled = λ set. refl; released = refl }) is) is)
 
-  pub noting_stays : (now : ℕ) (table : Table) (number : ℕ) (part : StepSoFar) → Stays part → Stays (noting now table number part)
-  unfolding noting
-  noting_stays now table number part is = at_stays table number _ part is (λ row route at.
-      either Stays (table.is_strict && was_authorised route.phase) _ _
-      (route_stays number _ part (λ other also. record { onward = onward_same other.phase; cancelled = λ set. refl; released = refl }) is) is)
-
   looking_by_stays : (section : ℕ) (occupied : Bool) (table : Table) (number : ℕ) (part : StepSoFar) → Stays part → Stays (looking_by section occupied table number part)
   unfolding looking_by
   looking_by_stays section occupied table number part is = at_stays table number _ part is (λ row route at.
@@ -248,10 +241,8 @@ module _ (closed : Closings) (signals : ℕ) (routes : List RouteState) where
 
   -- ---- a step
 
-  pub behind_stays : (now : ℕ) (table : Table) (input : Input) (heard : StepSoFar) → Stays heard →
-      Stays (ticked now input (ruled now table (over (noting now table) (count table) (over (watching table) (count table) heard))))
-  behind_stays now table input heard is = ticked_stays now input _ (ruled_stays now table _
-      (over_stays (noting now table) (noting_stays now table) (count table) _ (over_stays (watching table) (watching_stays table) (count table) heard is)))
+  pub behind_stays : (now : ℕ) (table : Table) (input : Input) (heard : StepSoFar) → Stays heard → Stays (ticked now input (ruled now table (over (watching table) (count table) heard)))
+  behind_stays now table input heard is = ticked_stays now input _ (ruled_stays now table _ (over_stays (watching table) (watching_stays table) (count table) heard is))
 
   moved_stays : (now : ℕ) (cause : Option Refusal) (command : Command) (part : StepSoFar) → Stays part → Stays (moved_at_once now cause command part)
   unfolding moved_at_once
@@ -290,7 +281,7 @@ commanded now None (commands.Open named) ixl = refl
 
 -- what the clock and the input left
 abbrev pub behind_input : ℕ → Table → Key → Input → IxlState → StepSoFar
-behind_input now table key input ixl = given now table key input (left_in now ixl)
+behind_input now table key input ixl = given now table key input (begun_with (all_clocked now ixl) empty_outbox)
 
 -- this stays behind it
 abbrev pub StaysBehind : ℕ → Table → Key → Input → IxlState → StepSoFar → Type 0
@@ -306,41 +297,33 @@ stepped_stays now table key input ixl =
     let heard = behind_input now table key input ixl
     in behind_stays heard.ixl.closed (length heard.ixl.known_signals) heard.ixl.routes now table input heard (nothing_yet heard)
 
--- the clock and the closes change none of it
-left_stays : (now : ℕ) (ixl : IxlState) → KeptSince ixl.closed (length ixl.known_signals) ixl.routes (left_in now ixl)
-unfolding as_found
-left_stays now ixl = record {
-  closed_is = ap (λ (i : IxlState). i.closed) (found_in now ixl);
-  signals_are = ap (λ (i : IxlState). length i.known_signals) (found_in now ixl) ∙ length-map ixl.known_signals _;
-  follow = all_follow_as ixl.routes ixl.routes (left_in now ixl).ixl.routes (ap (λ (i : IxlState). i.routes) (found_in now ixl)) (all_follow_same ixl.routes);
-}
-
 -- the input changes none of it, unless it is a command
 pub others_stay : (now : ℕ) (table : Table) (key : Key) (bytes : List ℕ) (ixl : IxlState) → KeptSince ixl.closed (length ixl.known_signals) ixl.routes (behind_input now table key (Datagram bytes) ixl)
-others_stay now table key bytes ixl = datagram_stays ixl.closed (length ixl.known_signals) ixl.routes now table key bytes (left_in now ixl) (left_stays now ixl)
+unfolding all_clocked
+others_stay now table key bytes ixl = datagram_stays ixl.closed (length ixl.known_signals) ixl.routes now table key bytes (begun_with (all_clocked now ixl) empty_outbox)
+    (record { closed_is = refl; signals_are = length-map ixl.known_signals _; follow = all_follow_same ixl.routes })
 
 -- a command is obeyed; a move changes none of it
 abbrev pub left_by : ℕ → Table → Command → IxlState → IxlState
-left_by now table command ixl = commanded_by now (refusal now table command (as_found now ixl)) command (as_found now ixl)
+left_by now table command ixl = commanded_by now (refusal now table command (all_clocked now ixl)) command (all_clocked now ixl)
 
 pub command_stays : (now : ℕ) (table : Table) (key : Key) (command : Command) (ixl : IxlState) →
     KeptSince (left_by now table command ixl).closed (length (left_by now table command ixl).known_signals) (left_by now table command ixl).routes (behind_input now table key (Commands command) ixl)
 unfolding given
 command_stays now table key command ixl =
-    let left : StepSoFar = left_in now ixl
-    in let kept_of : IxlState → IxlState = λ i. commanded_by now (refusal now table command i) command i
-    in let kept : IxlState = kept_of left.ixl
-    in subst (λ (i : IxlState). KeptSince (kept_of i).closed (length (kept_of i).known_signals) (kept_of i).routes (behind_input now table key (Commands command) ixl)) (found_in now ixl)
-    (moved_stays kept.closed (length kept.known_signals) kept.routes now (refusal now table command left.ixl) command (record left { ixl = kept }) (nothing_yet (record left { ixl = kept })))
+    let cause = refusal now table command (all_clocked now ixl)
+    in let kept = commanded_by now cause command (all_clocked now ixl)
+    in moved_stays kept.closed (length kept.known_signals) kept.routes now cause command (record (begun_with (all_clocked now ixl) empty_outbox) { ixl = kept })
+    (nothing_yet (record (begun_with (all_clocked now ixl) empty_outbox) { ixl = kept }))
 
 pub closed_stepped : (now : ℕ) (table : Table) (key : Key) (input : Input) (ixl : IxlState) →
     (stepped now table key input (begun_with ixl empty_outbox)).ixl.closed ≡ closed_after input (reply now table key input ixl) ixl.closed
-unfolding given reply as_found
-closed_stepped now table key Tick ixl = (stepped_stays now table key Tick ixl).closed_is ∙ (left_stays now ixl).closed_is
+unfolding given reply all_clocked
+closed_stepped now table key Tick ixl = (stepped_stays now table key Tick ixl).closed_is
 closed_stepped now table key (Datagram bytes) ixl = (stepped_stays now table key (Datagram bytes) ixl).closed_is ∙ (others_stay now table key bytes ixl).closed_is
 closed_stepped now table key (Commands command) ixl =
     (stepped_stays now table key (Commands command) ixl).closed_is ∙ (command_stays now table key command ixl).closed_is
-    ∙ commanded now (refusal now table command (as_found now ixl)) command (as_found now ixl)
+    ∙ commanded now (refusal now table command (all_clocked now ixl)) command (all_clocked now ixl)
 
 pub closed_step : (now : ℕ) (input : Input) (old new : InterlockingState) (answer : Reply) → HasStepped now input old new answer → new.state.ixl.closed ≡ closed_after input answer old.state.ixl.closed
 closed_step now input old new answer step =

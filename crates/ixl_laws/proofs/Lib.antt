@@ -13,10 +13,8 @@ pub mod CalledSteps
 pub mod Cancelled
 pub mod CancelAccepted
 pub mod Clients
-pub mod ClosedFirst
 pub mod Courses
 pub mod UnsoundFalls
-pub mod Found
 pub mod GivenOnce
 pub mod RoutesGoOn
 pub mod Hears
@@ -43,7 +41,6 @@ pub mod RunOnce
 pub mod Shut
 pub mod Telegrams
 pub mod NoneDown
-pub mod NotedStep
 pub mod TurnKeeps
 pub mod TurnMoves
 pub mod TurnOrder

@@ -15,9 +15,8 @@ use Rattle.ixl_state.specs.ixl_client.declared.command.Command.{Command}
 use Rattle.ixl_state.specs.ixl_client.declared.command.Command.TheVariants as telegrams
 use Rattle.ixl_state.specs.ixl_spec.Commands.{commanded_by, moved_at_once, obeyed, refusal}
 use Rattle.ixl_state.specs.ixl_spec.Due.{IsAvailable}
-use Rattle.ixl_state.specs.ixl_spec.State.{IxlState}
 use Rattle.ixl_state.specs.ixl_spec.Rules.{authorised, come_to, freed, one_freed, stopped}
-use Rattle.ixl_state.specs.ixl_spec.Step.{Commands, Input, as_found, detector_ticking, given, known_point_ticking, known_signal_ticking}
+use Rattle.ixl_state.specs.ixl_spec.Step.{Commands, Input, all_clocked, detector_ticking, given, known_point_ticking, known_signal_ticking}
 use Rattle.ixl_state.specs.ixl_spec.StepSoFar.{Detector, Node, Point, Signal, StepSoFar, giving_aspect, giving_move, with_route}
 use Rattle.ixl_state.specs.ixl_spec.Table.{Table}
 use Rattle.ixl_state.specs.ixl_spec.View.{is_signal_ready}
@@ -28,9 +27,7 @@ use Rattle.ixl.specs.Interlocking.{InterlockingState}
 use Rattle.ixl_laws.specs.GivenOnce.{GivesMove, GivesTelegram, telegram_for}
 use Rattle.ixl_laws.specs.Nodes.{is_node, of_node}
 use Rattle.ixl_laws.specs.Operations.{IsMovedOnce}
-use Rattle.ixl_laws.specs.WholeStep.{Beat, DoesItsTurn, EndAuthority, FreeCancelled, FreeSection, MovePoint, Note, Passed, Proceed, Turn, TurnTaken, Watch, WholeStep, Withdraw, approach_seen, beaten, clock_left, heard, sections_noted}
-use Rattle.ixl_laws.proofs.ClosedFirst.{left_sent}
-use Rattle.ixl_laws.proofs.Found.{found_is}
+use Rattle.ixl_laws.specs.WholeStep.{Beat, DoesItsTurn, EndAuthority, FreeCancelled, FreeSection, MovePoint, Passed, Proceed, Turn, TurnTaken, Watch, WholeStep, Withdraw, approach_seen, beaten, clock_left, heard}
 use Rattle.ixl_laws.proofs.Nodes.{node_same, noted_elsewhere, noted_here}
 use Rattle.ixl_laws.proofs.PickedByTest.{either, none_is, some_is, some_same}
 use Rattle.ixl_laws.proofs.PointAnswers.{sent_joined}
@@ -112,8 +109,6 @@ module _ (now : ℕ) (table : Table) (point : ℕ) (items : List (List ℕ)) whe
   sent_kept : (turn : Turn) (before after : StepSoFar) → DoesItsTurn now table turn before after → HasMoved point before → Sent before → Stays (Sent after)
   sent_kept (Watch place) before after (row, route, is, does) moved sent lost =
       where_stays Sent before (with_route place (approach_seen table before.ixl row) before) after does sent (λ due. sent) lost
-  sent_kept (Note place) before after (row, route, is, does) moved sent lost =
-      where_stays Sent before (with_route place (sections_noted now table before.ixl row) before) after does sent (λ due. sent) lost
   sent_kept (Withdraw place) before after (row, route, is, does) moved sent lost =
       let part = with_route place (come_to phase.Withdrawn) before
       in where_stays Sent before (stopped now row part) after does sent (λ due. either Sent (is_signal_ready part.ixl row.entry) _ _ (aspect_sent row.entry _ part sent) sent) lost
@@ -145,25 +140,22 @@ module _ (now : ℕ) (point : PointId) (side : Side) (old : InterlockingState) w
   abbrev input : Input
   input = Commands (commands.Move point side)
 
-  found_so : (cause : Option Refusal) → refusal now old.state.sited.table (commands.Move point side) (as_found now old.state.ixl) ≡ cause → refusal now old.state.sited.table (commands.Move point side) (clock_left now old).ixl ≡ cause
-  found_so cause is = ap (refusal now old.state.sited.table (commands.Move point side)) (found_is now old) ∙ is
-
   by_cause : Option Refusal → StepSoFar
-  by_cause cause = moved_at_once now cause (commands.Move point side) (record (clock_left now old) { ixl = commanded_by now cause (commands.Move point side) (clock_left now old).ixl })
+  by_cause cause = moved_at_once now cause (commands.Move point side) (record (clock_left now old) { ixl = commanded_by now cause (commands.Move point side) (all_clocked now old.state.ixl) })
 
-  pub nothing_moved : (cause : Refusal) → refusal now old.state.sited.table (commands.Move point side) (as_found now old.state.ixl) ≡ Some cause → heard now input old ≡ clock_left now old
+  pub nothing_moved : (cause : Refusal) → refusal now old.state.sited.table (commands.Move point side) (all_clocked now old.state.ixl) ≡ Some cause → heard now input old ≡ clock_left now old
   unfolding given moved_at_once by_cause
-  nothing_moved cause refused = ap by_cause (found_so (Some cause) refused)
+  nothing_moved cause refused = ap by_cause refused
 
-  heard_moved : refusal now old.state.sited.table (commands.Move point side) (as_found now old.state.ixl) ≡ None → heard now input old ≡ giving_move now point.0 side (clock_left now old)
+  heard_moved : refusal now old.state.sited.table (commands.Move point side) (all_clocked now old.state.ixl) ≡ None → heard now input old ≡ giving_move now point.0 side (clock_left now old)
   unfolding given moved_at_once obeyed by_cause
-  heard_moved accepted = ap by_cause (found_so None accepted)
+  heard_moved accepted = ap by_cause accepted
 
   pub moved_once : (says : (command : Command) (part : ClientSoFar) → SaysCommand (telegram_of command part) part (commanding now command part)) →
-      refusal now old.state.sited.table (commands.Move point side) (as_found now old.state.ixl) ≡ None → IsAvailable (as_found now old.state.ixl) point.0 →
+      refusal now old.state.sited.table (commands.Move point side) (all_clocked now old.state.ixl) ≡ None → IsAvailable (all_clocked now old.state.ixl) point.0 →
       (new : InterlockingState) (step : WholeStep now input old new) → IsMovedOnce now point.0 side input old new step
   unfolding of_node
-  moved_once says accepted (known_point, at, available) new step = record {
+  moved_once says accepted (known_point, there, available) new step = record {
     known_point = known_point;
     there = there;
     at_once = at_once;
@@ -177,9 +169,6 @@ module _ (now : ℕ) (point : PointId) (side : Side) (old : InterlockingState) w
     begin : StepSoFar
     begin = heard now input old
 
-    there : slice_get (clock_left now old).ixl.known_points point.0 ≡ Some known_point
-    there = ap (λ (i : IxlState). slice_get i.known_points point.0) (found_is now old) ∙ at
-
     items : List (List ℕ)
     items = telegram_for known_point.client (telegrams.Move side) ∷ []
 
@@ -191,8 +180,7 @@ module _ (now : ℕ) (point : PointId) (side : Side) (old : InterlockingState) w
     moved = subst (HasMoved point.0) (sym (heard_moved accepted)) (given_moved now point.0 side (clock_left now old))
 
     begins : items_sent (of_node (Point point.0) (heard now input old).calls) ≡ items
-    begins = ap (λ list. items_sent (of_node (Point point.0) list)) at_once.made ∙ ap items_sent (noted_here (Point point.0) (clock_left now old).calls at_once.calls)
-        ∙ sent_joined (of_node (Point point.0) (clock_left now old).calls) at_once.calls ∙ ap (λ some. some ++ items_sent at_once.calls) (left_sent now old (Point point.0)) ∙ at_once.sent
+    begins = ap (λ list. items_sent (of_node (Point point.0) list)) at_once.made ∙ ap items_sent (noted_here (Point point.0) [] at_once.calls) ∙ at_once.sent
 
     no_other : (place : ℕ) (taken : TurnTaken) → slice_get step.turns place ≡ Some taken → GivesMove old.state.sited.table point.0 taken → ⊥
     no_other place taken at gives = up_to now table (HasMoved point.0) (moved_kept now table point.0) step.turns begin step.last step.follow place taken at moved

@@ -6,7 +6,7 @@ use Rattle.ixl_state.specs.ixl_spec.State.{IxlState}
 use Rattle.ixl_state.specs.ixl_spec.Step.{Commands, Datagram, Input, Tick}
 use Rattle.ixl_state.specs.ixl_spec.StepSoFar.{Detector, Point, Signal}
 use Rattle.ixl_state.specs.ixl_spec.Table.{Need, Row}
-use Rattle.ixl_laws.specs.WholeStep.{Beat, EndAuthority, FreeCancelled, FreeSection, MovePoint, Note, Passed, Proceed, Turn, TurnTaken, Watch, Withdraw, for_each, turns_of_input, turns_of_rules}
+use Rattle.ixl_laws.specs.WholeStep.{Beat, EndAuthority, FreeCancelled, FreeSection, MovePoint, Passed, Proceed, Turn, TurnTaken, Watch, Withdraw, for_each, turns_of_input, turns_of_rules}
 use Rattle.ixl_laws.proofs.PickedByTest.{none_is, some_same}
 
 module _ (rows : List Row) where
@@ -14,7 +14,6 @@ module _ (rows : List Row) where
   abbrev IsNeeded : Turn → Type 0
   IsNeeded (MovePoint number need) = (row : Row) × (slice_get rows number ≡ Some row) × Contains row.needs need
   IsNeeded (Watch number) = Unit {0}
-  IsNeeded (Note number) = Unit {0}
   IsNeeded (Withdraw number) = Unit {0}
   IsNeeded (EndAuthority number) = Unit {0}
   IsNeeded (FreeSection number) = Unit {0}
@@ -59,7 +58,6 @@ module _ (rows : List Row) where
   rules_needed : AreNeeded (turns_of_rules rows)
   rules_needed =
       both_needed (for_each (λ number row. Watch number ∷ []) 0 rows) _ (each_needed (λ number row. Watch number ∷ []) 0 rows (λ place row is. one_needed (Watch (0 + place)) [] tt none_needed))
-      (both_needed (for_each (λ number row. Note number ∷ []) 0 rows) _ (each_needed (λ number row. Note number ∷ []) 0 rows (λ place row is. one_needed (Note (0 + place)) [] tt none_needed))
       (both_needed (for_each (λ number row. Withdraw number ∷ []) 0 rows) _ (each_needed (λ number row. Withdraw number ∷ []) 0 rows (λ place row is. one_needed (Withdraw (0 + place)) [] tt none_needed))
       (both_needed (for_each (λ number row. EndAuthority number ∷ []) 0 rows) _ (each_needed (λ number row. EndAuthority number ∷ []) 0 rows (λ place row is. one_needed (EndAuthority (0 + place)) [] tt none_needed))
       (both_needed (for_each (λ number row. map (λ section. FreeSection number) row.sections ++ Passed number ∷ []) 0 rows) _
@@ -68,7 +66,7 @@ module _ (rows : List Row) where
       (both_needed (for_each (λ number row. FreeCancelled number ∷ []) 0 rows) _ (each_needed (λ number row. FreeCancelled number ∷ []) 0 rows (λ place row is. one_needed (FreeCancelled (0 + place)) [] tt none_needed))
       (both_needed (for_each (λ number row. map (MovePoint number) row.needs) 0 rows) _ (each_needed (λ number row. map (MovePoint number) row.needs) 0 rows (λ place row is.
       let same : place ≡ 0 + place = omega arith in subst (λ n. AreNeeded (map (MovePoint n) row.needs)) same (points_needed place row is row.needs (λ need has. has))))
-      (each_needed (λ number row. Proceed number ∷ []) 0 rows (λ place row is. one_needed (Proceed (0 + place)) [] tt none_needed))))))))
+      (each_needed (λ number row. Proceed number ∷ []) 0 rows (λ place row is. one_needed (Proceed (0 + place)) [] tt none_needed)))))))
 
   input_needed : (input : Input) (ixl : IxlState) → AreNeeded (turns_of_input input ixl)
   input_needed Tick ixl =

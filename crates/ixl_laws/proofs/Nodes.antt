@@ -21,7 +21,7 @@ node_same (Detector place) (Signal other) is = absurd (false≢true is)
 node_same (Detector place) (Point other) is = absurd (false≢true is)
 node_same (Detector place) (Detector other) is = ap Detector (sym (eqb-true other place is))
 
-pub of_joined : {A : Type 0} (node : Node) (some more : List (Node × A)) → of_node node (some ++ more) ≡ of_node node some ++ of_node node more
+of_joined : {A : Type 0} (node : Node) (some more : List (Node × A)) → of_node node (some ++ more) ≡ of_node node some ++ of_node node more
 unfolding of_node
 of_joined node [] more = refl
 of_joined {A} node (first ∷ others) more = cases (is_node node first.0) (of_joined node others more) where

@@ -21,7 +21,7 @@ use Rattle.ixl_state.specs.ixl_spec.StepSoFar.{Detector, Node, Point, Signal, St
 use Rattle.ixl_state.specs.ixl_spec.Table.{Row, Table}
 use Rattle.ixl_state.specs.ixl_spec.View.{is_signal_ready}
 use Rattle.ixl_state.specs.ixl_spec.declared.phase.Phase.TheVariants as phase
-use Rattle.ixl_laws.specs.WholeStep.{Beat, DoesItsTurn, EndAuthority, FreeCancelled, FreeSection, MovePoint, Note, Passed, Proceed, Turn, Watch, Withdraw, approach_seen, beaten, sections_noted}
+use Rattle.ixl_laws.specs.WholeStep.{Beat, DoesItsTurn, EndAuthority, FreeCancelled, FreeSection, MovePoint, Passed, Proceed, Turn, Watch, Withdraw, approach_seen, beaten}
 use Rattle.ixl_laws.proofs.Clients.{detector_client, known_point_client, known_signal_client}
 use Rattle.ixl_laws.proofs.Hears.{inside_stays}
 use Rattle.ixl_laws.proofs.Once.{inside_of}
@@ -182,8 +182,6 @@ module _ (now : ℕ) (table : Table) (start : IxlState) where
   pub learns_kept : (turn : Turn) (before after : StepSoFar) → DoesItsTurn now table turn before after → LearnsNothing table start before → Stays (LearnsNothing table start after)
   learns_kept (Watch place) before after (row, route, is, does) same lost =
       where_stays Same before (with_route place (approach_seen table before.ixl row) before) after does same (λ due. route_learns place (approach_seen table before.ixl row) before same) lost
-  learns_kept (Note place) before after (row, route, is, does) same lost =
-      where_stays Same before (with_route place (sections_noted now table before.ixl row) before) after does same (λ due. route_learns place (sections_noted now table before.ixl row) before same) lost
   learns_kept (Withdraw place) before after (row, route, is, does) same lost =
       where_stays Same before (stopped now row (with_route place (come_to phase.Withdrawn) before)) after does same
       (λ due. stopped_learns row (with_route place (come_to phase.Withdrawn) before) (route_learns place (come_to phase.Withdrawn) before same)) lost

@@ -2,7 +2,7 @@
 use Rattle.std.proofs.Common.{◌≡◌, ℕ, zero, suc, List, [], ◌∷◌, length, arith, refl, ap, sym, ◌∙◌}
 use Rattle.std.specs.Prelude.{Option, Some, None, slice_get}
 use Rattle.ixl_state.specs.ixl_spec.Commands.{refusal}
-use Rattle.ixl_state.specs.ixl_spec.Step.{Accepted, Commands, Refused, Reply, as_found, answer_by, reply}
+use Rattle.ixl_state.specs.ixl_spec.Step.{Accepted, Commands, Refused, Reply, all_clocked, answer_by, reply}
 use Rattle.ixl_state.specs.ixl_spec.declared.command.Command.{Command}
 use Rattle.ixl_state.specs.ixl_spec.declared.command.Refusal.{Refusal}
 use Rattle.ixl.specs.Interlocking.{HasStepped, InterlockingState}
@@ -17,19 +17,19 @@ answer_refuses None cause is = cc
 answer_refuses (Some other) cause is = cc
 
 pub accepted_is : (now : ℕ) (command : Command) (old new : InterlockingState) (answer : Reply) → HasStepped now (Commands command) old new answer → answer ≡ Accepted →
-    refusal now old.state.sited.table command (as_found now old.state.ixl) ≡ None
+    refusal now old.state.sited.table command (all_clocked now old.state.ixl) ≡ None
 unfolding reply
-accepted_is now command old new answer step accepts = answer_accepts (refusal now old.state.sited.table command (as_found now old.state.ixl)) (sym step.answered ∙ accepts)
+accepted_is now command old new answer step accepts = answer_accepts (refusal now old.state.sited.table command (all_clocked now old.state.ixl)) (sym step.answered ∙ accepts)
 
 pub accepted_so : (now : ℕ) (command : Command) (old new : InterlockingState) (answer : Reply) → HasStepped now (Commands command) old new answer →
-    refusal now old.state.sited.table command (as_found now old.state.ixl) ≡ None → answer ≡ Accepted
+    refusal now old.state.sited.table command (all_clocked now old.state.ixl) ≡ None → answer ≡ Accepted
 unfolding reply
 accepted_so now command old new answer step none = step.answered ∙ ap answer_by none
 
 pub refused_is : (now : ℕ) (command : Command) (old new : InterlockingState) (answer : Reply) (cause : Refusal) → HasStepped now (Commands command) old new answer → answer ≡ Refused cause →
-    refusal now old.state.sited.table command (as_found now old.state.ixl) ≡ Some cause
+    refusal now old.state.sited.table command (all_clocked now old.state.ixl) ≡ Some cause
 unfolding reply
-refused_is now command old new answer cause step refuses = answer_refuses (refusal now old.state.sited.table command (as_found now old.state.ixl)) cause (sym step.answered ∙ refuses)
+refused_is now command old new answer cause step refuses = answer_refuses (refusal now old.state.sited.table command (all_clocked now old.state.ixl)) cause (sym step.answered ∙ refuses)
 
 -- there is one at each place at which another list of this length has one
 pub also_there : {A B : Type 0} (ones : List A) (others : List B) (place : ℕ) (one : A) → length ones ≡ length others → slice_get ones place ≡ Some one → (other : B) × (slice_get others place ≡ Some other)

@@ -1,18 +1,18 @@
 -- A whole step calls links in its order, and hands out what the calls do.
-use Rattle.std.proofs.Common.{◌≡◌, ◌<◌, ◌≤◌, inl, ℕ, zero, suc, List, [], ◌∷◌, ◌++◌, append_assoc, append-nil, arith, length, refl, ap, sym, ◌∙◌, subst}
+use Rattle.std.proofs.Common.{◌≡◌, ◌<◌, ◌≤◌, inl, ℕ, zero, suc, List, [], ◌∷◌, ◌++◌, append_assoc, append-nil, arith, length, refl, ap, sym, ◌∙◌}
 use Rattle.std.specs.Prelude.{map, Option, Some, None, option_map, slice_get}
 use Rattle.ixl_state.specs.rasta_pdu.PduRead.{reading}
 use Rattle.ixl_state.specs.rasta_core.Clock.{settled}
 use Rattle.ixl_state.specs.rasta_core.Outbox.{OutboxState}
 use Rattle.ixl_state.specs.rasta_core.State.{LinkState}
 use Rattle.ixl_state.specs.ixl_client.Client.{ClientState}
-use Rattle.ixl_state.specs.ixl_client.Step.{clocked, closing_behind, hearing, ticking}
-use Rattle.ixl_state.specs.ixl_client.ClientSoFar.{LinkCall, Opens, Receives, Ticks, begun, calling}
+use Rattle.ixl_state.specs.ixl_client.Step.{clocked, hearing, ticking}
+use Rattle.ixl_state.specs.ixl_client.ClientSoFar.{Opens, Receives, Ticks, begun, calling}
 use Rattle.ixl_state.specs.ixl_spec.Commands.{commanded_by, moved_at_once, obeyed, refusal, unmoved_for}
 use Rattle.ixl_state.specs.ixl_spec.StepSoFar.{Detector, Node, Point, Signal, StepSoFar, begun_with, empty_outbox, over, with_one, with_route}
 use Rattle.ixl_state.specs.ixl_spec.Rules.{count, ruled}
 use Rattle.ixl_state.specs.ixl_spec.State.{IxlState, RouteState}
-use Rattle.ixl_state.specs.ixl_spec.Step.{Commands, Datagram, Input, Reply, Tick, addressed, all_clocked, all_closing, client_at, clocked_detector, clocked_known_point, clocked_known_signal, detector_closing, detector_hearing, detector_ticking, given, indicated_heard, known_point_closing, known_point_hearing, known_point_ticking, known_signal_closing, known_signal_hearing, known_signal_ticking, looking, looks, node_hearing, noting, occupied_heard, side_heard, stepped, ticked, watching}
+use Rattle.ixl_state.specs.ixl_spec.Step.{Commands, Datagram, Input, Reply, Tick, addressed, all_clocked, client_at, clocked_detector, clocked_known_point, clocked_known_signal, detector_hearing, detector_ticking, given, indicated_heard, known_point_hearing, known_point_ticking, known_signal_hearing, known_signal_ticking, looking, looks, node_hearing, occupied_heard, side_heard, stepped, ticked, watching}
 use Rattle.ixl_state.specs.ixl_spec.Table.{Table}
 use Rattle.ixl_state.specs.ixl_spec.declared.command.Command.{Command}
 use Rattle.ixl_state.specs.ixl_spec.declared.command.Command.TheVariants as commands
@@ -20,19 +20,16 @@ use Rattle.ixl_state.specs.ixl_spec.declared.command.Refusal.{Refusal}
 use Rattle.ixl_state.specs.First.{key_of}
 use Rattle.ixl.specs.Interlocking.{HasStepped, InterlockingState, step_of}
 use Rattle.ixl_laws.specs.Called.{ReceivesFirst}
-use Rattle.ixl_laws.specs.Order.{AreOfCommand, AreOfInput, AtMostOne, CallsAtLink, CallsInOrder, beats, beats_of, calls_of, closes_of, handed_out, links_at}
-use Rattle.ixl_laws.specs.WholeStep.{clock_left}
+use Rattle.ixl_laws.specs.Order.{AreOfCommand, AreOfInput, AtMostOne, CallsAtLink, CallsInOrder, beats, beats_of, calls_of, handed_out, links_at}
 use Rattle.ixl_laws.proofs.Called.{clocked_clients, clocked_link, clocked_peer}
 use Rattle.ixl_laws.proofs.CalledGiven.{commanded_clients}
 use Rattle.ixl_laws.proofs.CalledSteps.{ClientLaws}
-use Rattle.ixl_laws.proofs.ClosedFirst.{left_calls}
-use Rattle.ixl_laws.proofs.Found.{found_is}
 use Rattle.ixl_laws.proofs.InOrder.{Grows, calls_joined, grows_from, grows_nothing, grows_one}
 use Rattle.ixl_laws.proofs.Ordered.{Ordered, SameSizes, SpeaksAs, begins_ordered, changed_length, link_of, same_ordered, sizes_then}
 use Rattle.ixl_laws.proofs.OrderedNext.{Made, detector_next, point_next, signal_next}
 use Rattle.ixl_laws.proofs.OrderedRules.{RulesGrow, move_grows, move_ordered, route_ordered, rules_grow}
 use Rattle.ixl_laws.proofs.PickedByTest.{none_is, some_same}
-use Rattle.ixl_laws.proofs.Ruled.{along_holds, closing_holds, looking_holds, seen_holds, with_one_holds, with_one_or_none}
+use Rattle.ixl_laws.proofs.Ruled.{along_holds, looking_holds, seen_holds, with_one_or_none}
 
 -- ---- lists
 
@@ -51,29 +48,6 @@ beat_calls node n = calls_joined (beats node n) (record { node = node n; calls =
 module _ (now : ℕ) (laws : ClientLaws now) (links : Node → Option LinkState) (start : IxlState) where
   abbrev On : StepSoFar → Type 0
   On part = Ordered now links start part
-
-  -- ---- links that aren't caught up any more
-
-  shut_made : (one : ClientState) (outbox : OutboxState) → Made now (laws.behind (begun one outbox)).0 one outbox (closing_behind now (begun one outbox))
-  shut_made one outbox = ((laws.behind (begun one outbox)).1, laws.same_behind (begun one outbox))
-
-  signal_closes : (place : ℕ) (part : StepSoFar) → On part → On (known_signal_closing now place part)
-  unfolding known_signal_closing
-  signal_closes place part on = with_one_holds On (slice_get part.ixl.known_signals place) _ part (λ kept there.
-      signal_next now links start place kept part (closing_behind now (begun kept.client part.outbox)) kept.aspect kept.number kept.indicated _ there (shut_made kept.client part.outbox) on) on
-
-  point_closes : (place : ℕ) (part : StepSoFar) → On part → On (known_point_closing now place part)
-  unfolding known_point_closing
-  point_closes place part on = with_one_holds On (slice_get part.ixl.known_points place) _ part (λ kept there.
-      point_next now links start place kept part (closing_behind now (begun kept.client part.outbox)) kept.side kept.moved _ there (shut_made kept.client part.outbox) on) on
-
-  detector_closes : (place : ℕ) (part : StepSoFar) → On part → On (detector_closing now place part)
-  unfolding detector_closing
-  detector_closes place part on = with_one_holds On (slice_get part.ixl.detectors place) _ part (λ kept there.
-      detector_next now links start place kept part (closing_behind now (begun kept.client part.outbox)) kept.occupied _ there (shut_made kept.client part.outbox) on) on
-
-  pub closing_ordered : (part : StepSoFar) → On part → On (all_closing now part)
-  closing_ordered part on = closing_holds On now signal_closes point_closes detector_closes part on
 
   -- ---- a datagram
 
@@ -266,11 +240,8 @@ kept_links now None = refl
 kept_links now (Some one) = ap Some (sym (clocked_link now one))
 
 module _ (now : ℕ) (laws : ClientLaws now) (old : InterlockingState) where
-  abbrev clocked_part : StepSoFar
-  clocked_part = begun_with (all_clocked now old.state.ixl) empty_outbox
-
   abbrev first : StepSoFar
-  first = clock_left now old
+  first = begun_with (all_clocked now old.state.ixl) empty_outbox
 
   abbrev OnStep : StepSoFar → Type 0
   OnStep part = Ordered now (links_at now old.state.ixl) old.state.ixl part
@@ -291,12 +262,9 @@ module _ (now : ℕ) (laws : ClientLaws now) (old : InterlockingState) where
     detectors = mapped_length (clocked_detector now) old.state.ixl.detectors;
   }
 
-  clock_begins : OnStep clocked_part
-  clock_begins = begins_ordered now (links_at now old.state.ixl) old.state.ixl clocked_part refl refl
-      (λ node. kept_links now (client_at node old.state.ixl) ∙ ap link_of (sym (clocked_clients now node old.state.ixl))) speaks clocked_sizes
-
   begins : OnStep first
-  begins = closing_ordered now laws (links_at now old.state.ixl) old.state.ixl clocked_part clock_begins
+  begins = begins_ordered now (links_at now old.state.ixl) old.state.ixl first refl refl
+      (λ node. kept_links now (client_at node old.state.ixl) ∙ ap link_of (sym (clocked_clients now node old.state.ixl))) speaks clocked_sizes
 
   obeyed_sizes : (command : Command) (ixl : IxlState) → SameSizes ixl (obeyed now command ixl)
   unfolding obeyed
@@ -341,38 +309,30 @@ module _ (now : ℕ) (laws : ClientLaws now) (old : InterlockingState) where
   unfolding given
   input_heard Tick = (begins, grows_nothing (AreOfInput now Tick old) first first refl refl)
   input_heard (Commands command) =
-      let cause = refusal now old.state.sited.table command first.ixl
-      in moved_heard cause command (record first { ixl = commanded_by now cause command first.ixl }) refl
-      (same_ordered now (links_at now old.state.ixl) old.state.ixl first (commanded_by now cause command first.ixl)
-      (λ node. commanded_clients now cause command first.ixl node) (commanded_sizes cause command first.ixl) begins)
-  input_heard (Datagram bytes) =
-      let sender : IxlState → Option Node = λ ixl. addressed (reading (key_of old.state.sited.site) bytes) ixl
-      in let part : StepSoFar = with_one (sender first.ixl) (node_hearing now old.state.sited.table bytes) first
-      in subst (λ (ixl : IxlState). OnStep part × Grows (AtMostOne (λ turn. (sender ixl ≡ Some turn.node) × ReceivesFirst (Receives bytes ∷ []) turn.calls)) first part) (found_is now old)
-      (datagram_heard now laws (links_at now old.state.ixl) old.state.ixl old.state.sited.table bytes first begins (sender first.ixl))
+      let cause = refusal now old.state.sited.table command (all_clocked now old.state.ixl)
+      in moved_heard cause command (record first { ixl = commanded_by now cause command (all_clocked now old.state.ixl) }) refl
+      (same_ordered now (links_at now old.state.ixl) old.state.ixl first (commanded_by now cause command (all_clocked now old.state.ixl))
+      (λ node. commanded_clients now cause command (all_clocked now old.state.ixl) node) (commanded_sizes cause command (all_clocked now old.state.ixl)) begins)
+  input_heard (Datagram bytes) = datagram_heard now laws (links_at now old.state.ixl) old.state.ixl old.state.sited.table bytes first begins (addressed (reading (key_of old.state.sited.site) bytes) (all_clocked now old.state.ixl))
 
   module _ (input : Input) where
     heard : StepSoFar
     heard = given now old.state.sited.table (key_of old.state.sited.site) input first
 
     seen : StepSoFar
-    seen = over (noting now old.state.sited.table) (count old.state.sited.table) (over (watching old.state.sited.table) (count old.state.sited.table) heard)
+    seen = over (watching old.state.sited.table) (count old.state.sited.table) heard
 
     seen_on : OnStep seen
     unfolding heard seen
-    seen_on = seen_holds OnStep (route_ordered now laws (links_at now old.state.ixl) old.state.ixl) old.state.sited.table now heard (input_heard input).0
+    seen_on = seen_holds OnStep (route_ordered now laws (links_at now old.state.ixl) old.state.ixl) old.state.sited.table heard (input_heard input).0
 
     grows : Grows (AreOfInput now input old) first heard
     unfolding heard
     grows = (input_heard input).1
 
-    abbrev heard_calls : List (Node × LinkCall)
-    heard_calls = calls_of (closes_of now old.state.ixl) ++ calls_of grows.turns
-
-    seen_calls : seen.calls ≡ heard_calls
+    seen_calls : seen.calls ≡ calls_of grows.turns
     unfolding seen
-    seen_calls = seen_holds (λ p. p.calls ≡ heard_calls) (λ number change p same. same) old.state.sited.table now heard
-        (grows.calls ∙ ap (λ calls. calls ++ calls_of grows.turns) (left_calls now old))
+    seen_calls = seen_holds (λ p. p.calls ≡ calls_of grows.turns) (λ number change p same. same) old.state.sited.table heard grows.calls
 
     rules : RulesGrow now laws (links_at now old.state.ixl) old.state.ixl old.state.sited.table seen (ruled now old.state.sited.table seen)
     rules = rules_grow now laws (links_at now old.state.ixl) old.state.ixl old.state.sited.table seen seen_on
@@ -380,9 +340,9 @@ module _ (now : ℕ) (laws : ClientLaws now) (old : InterlockingState) where
     ends : OnStep (ticked now input (ruled now old.state.sited.table seen)) × ((ticked now input (ruled now old.state.sited.table seen)).calls ≡ (ruled now old.state.sited.table seen).calls ++ calls_of (beats_of input old.state.ixl))
     ends = tick_ordered now laws (links_at now old.state.ixl) old.state.ixl input (ruled now old.state.sited.table seen) rules.ordered
 
-    joined : (a b c d e f : List CallsAtLink) → calls_of (a ++ b ++ c ++ d ++ e ++ f) ≡ calls_of a ++ calls_of b ++ calls_of c ++ calls_of d ++ calls_of e ++ calls_of f
-    joined a b c d e f = calls_joined (a ++ b ++ c ++ d ++ e) f ∙ ap (λ list. list ++ calls_of f) (calls_joined (a ++ b ++ c ++ d) e
-        ∙ ap (λ list. list ++ calls_of e) (calls_joined (a ++ b ++ c) d ∙ ap (λ list. list ++ calls_of d) (calls_joined (a ++ b) c ∙ ap (λ list. list ++ calls_of c) (calls_joined a b))))
+    joined : (a b c d e : List CallsAtLink) → calls_of (a ++ b ++ c ++ d ++ e) ≡ calls_of a ++ calls_of b ++ calls_of c ++ calls_of d ++ calls_of e
+    joined a b c d e = calls_joined (a ++ b ++ c ++ d) e ∙ ap (λ list. list ++ calls_of e) (calls_joined (a ++ b ++ c) d
+        ∙ ap (λ list. list ++ calls_of d) (calls_joined (a ++ b) c ∙ ap (λ list. list ++ calls_of c) (calls_joined a b)))
 
     pub calls_in_order : CallsInOrder now input old
     unfolding stepped heard seen
@@ -392,7 +352,7 @@ module _ (now : ℕ) (laws : ClientLaws now) (old : InterlockingState) where
       moves = rules.moves;
       proceeds = rules.proceeds;
       calls = ends.1 ∙ ap (λ list. list ++ calls_of (beats_of input old.state.ixl)) (rules.calls ∙ ap (λ list. list ++ calls_of rules.stops ++ calls_of rules.moves ++ calls_of rules.proceeds) seen_calls)
-          ∙ sym (joined (closes_of now old.state.ixl) grows.turns rules.stops rules.moves rules.proceeds (beats_of input old.state.ixl));
+          ∙ sym (joined grows.turns rules.stops rules.moves rules.proceeds (beats_of input old.state.ixl));
       heard_are = grows.are;
       stops_are = rules.stops_are;
       moves_are = rules.moves_are;

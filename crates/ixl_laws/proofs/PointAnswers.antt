@@ -25,7 +25,7 @@ use Rattle.ixl_state.specs.ixl_spec.Commands.{commanded_by, moved_at_once, obeye
 use Rattle.ixl_state.specs.ixl_spec.StepSoFar.{Detector, Node, StepSoFar, Point, Signal, all_below, giving_aspect, giving_move, noted, over, known_point_after, with_one, with_route, with_known_point}
 use Rattle.ixl_state.specs.ixl_spec.Rules.{count, ruled}
 use Rattle.ixl_state.specs.ixl_spec.State.{RouteState, KnownPointState}
-use Rattle.ixl_state.specs.ixl_spec.Step.{Commands, Datagram, Input, Tick, addressed, detector_hearing, detector_ticking, given, known_signal_hearing, known_signal_ticking, looking, looks, node_hearing, side_heard, known_point_hearing, known_point_ticking, noting, ticked, watching}
+use Rattle.ixl_state.specs.ixl_spec.Step.{Commands, Datagram, Input, Tick, addressed, detector_hearing, detector_ticking, given, known_signal_hearing, known_signal_ticking, looking, looks, node_hearing, side_heard, known_point_hearing, known_point_ticking, ticked, watching}
 use Rattle.ixl_state.specs.ixl_spec.Table.{Table, at, passes}
 use Rattle.ixl_state.specs.ixl_spec.View.{is_point_available}
 use Rattle.ixl_state.specs.ixl_spec.declared.command.Command.{Command as RouteCommand}
@@ -274,8 +274,8 @@ module _ (place : ℕ) (start : KnownPointState) (moves : List Side) (told : Lis
     move = λ point side before available is. giving_move_stays now point side before says available is;
   }) table part is
 
-  pub seen_stays : (now : ℕ) (table : Table) (part : StepSoFar) → SoFar part → SoFar (over (noting now table) (count table) (over (watching table) (count table) part))
-  seen_stays now table part is = seen_holds SoFar route_stays table now part is
+  pub seen_stays : (table : Table) (part : StepSoFar) → SoFar part → SoFar (over (watching table) (count table) part)
+  seen_stays table part is = seen_holds SoFar route_stays table part is
 
   -- ---- ticks
 
@@ -359,39 +359,30 @@ module _ (place : ℕ) (start : KnownPointState) (moves : List Side) (told : Lis
 
   -- ---- what comes
 
-  -- nothing was said to the point yet, or heard of it
+  -- nothing was done at the point yet
   pub record Begins (part : StepSoFar) : Type 0 where
     pub there : slice_get part.ixl.known_points place ≡ Some start
     pub of : IsOfPoint start.client.peer
-    pub calls : items_sent (of_node (Point place) part.calls) ≡ []
-    pub acted : of_node (Point place) part.acted ≡ []
+    pub calls : part.calls ≡ []
+    pub acted : part.acted ≡ []
     pub counts : Counts start.client.stage moves told
     pub side : start.side ≡ last_told None told
 
   first_fine : (part : StepSoFar) → Begins part → Fine (of_node (Point place) part.calls) (of_node (Point place) part.acted) start []
-  unfolding told_by_all
-  first_fine part begins = record {
-    peer = refl;
-    sent = λ inside. ap (λ items. items_said start.client ++ items) begins.calls;
-    counted = λ inside. subst (λ list. Counts start.client.stage (moves ++ []) (told ++ told_in start.client.peer list)) (sym begins.acted)
-        (subst (λ list. Counts start.client.stage list (told ++ [])) (sym (append-nil moves)) (subst (Counts start.client.stage moves) (sym (append-nil told)) begins.counts));
-    last = λ inside. begins.side ∙ ap (last_told None) (sym (append-nil told)) ∙ ap (λ list. last_told None (told ++ told_in start.client.peer list)) (sym begins.acted);
-  }
-
-  -- calls that say the same
-  same_sent : (calls others : List LinkCall) (acted : List (List ℕ)) (known_point : KnownPointState) (more : List Side) → items_sent others ≡ items_sent calls → Fine calls acted known_point more → Fine others acted known_point more
-  same_sent calls others acted known_point more same is = record {
-    peer = is.peer;
-    sent = λ inside. ap (λ items. items_said start.client ++ items) same ∙ is.sent inside;
-    counted = is.counted;
-    last = is.last;
-  }
+  unfolding of_node items_sent told_by_all
+  first_fine part begins =
+      subst (λ list. Fine (of_node (Point place) list) (of_node (Point place) part.acted) start []) (sym begins.calls) (subst (λ list. Fine [] (of_node (Point place) list) start []) (sym begins.acted) (record {
+        peer = refl;
+        sent = λ inside. refl;
+        counted = λ inside. subst (λ list. Counts start.client.stage list (told ++ [])) (sym (append-nil moves)) (subst (Counts start.client.stage moves) (sym (append-nil told)) begins.counts);
+        last = λ inside. begins.side ∙ ap (last_told None) (sym (append-nil told));
+      }))
 
   at_first : (part : StepSoFar) → Begins part → SoFar part
   at_first part begins = record { known_point = start; more = []; there = begins.there; fine = first_fine part begins }
 
   hear_here : (now : ℕ) (bytes : List ℕ) (part : StepSoFar) → Hears now → Begins part → SoFar (known_point_hearing now bytes place part)
-  unfolding known_point_hearing heard_by
+  unfolding known_point_hearing of_node heard_by
   hear_here now bytes part hears begins = by_known_point (slice_get part.ixl.known_points place) refl where
     done : client.ClientSoFar
     done = hearing now bytes (begun start.client part.outbox)
@@ -431,11 +422,10 @@ module _ (place : ℕ) (start : KnownPointState) (moves : List Side) (told : Lis
       more = [];
       there = becomes_there place (known_point_after (side_heard done.heard start.side) moved done.client) part.ixl.known_points start begins.there;
       fine = subst (λ list. Fine list (of_node (Point place) (noted (Point place) done part).acted) (known_point_after (side_heard done.heard start.side) moved done.client) [])
-          (sym (noted_here (Point place) part.calls done.calls))
-          (same_sent done.calls (of_node (Point place) part.calls ++ done.calls) _ _ [] (sent_joined (of_node (Point place) part.calls) done.calls ∙ ap (λ items. items ++ items_sent done.calls) begins.calls)
+          (sym (noted_here (Point place) part.calls done.calls ∙ ap (λ list. of_node (Point place) list ++ done.calls) begins.calls))
           (subst (λ list. Fine done.calls list (known_point_after (side_heard done.heard start.side) moved done.client) [])
-          (sym (noted_here (Point place) part.acted done.acted ∙ ap (λ list. list ++ done.acted) begins.acted))
-          (alike done.calls done.acted (behind moved) _ [] (known_point_client (side_heard done.heard start.side) moved done.client) refl (plainly moved))));
+          (sym (noted_here (Point place) part.acted done.acted ∙ ap (λ list. of_node (Point place) list ++ done.acted) begins.acted))
+          (alike done.calls done.acted (behind moved) _ [] (known_point_client (side_heard done.heard start.side) moved done.client) refl (plainly moved)));
     }
 
     by_known_point : (one : Option KnownPointState) → slice_get part.ixl.known_points place ≡ one → SoFar (with_one one (heard_by now bytes place) part)

@@ -7,7 +7,7 @@ use Rattle.ixl_state.specs.layout.Entries.{Site}
 use Rattle.ixl_state.specs.rasta_pdu.declared.key.Key.{Key}
 use Rattle.ixl_state.specs.ixl_spec.Commands.{commanded_by, is_ended, obeyed, refusal, refused_where, release_refusal, released_at, set_anew}
 use Rattle.ixl_state.specs.ixl_spec.State.{IxlState, RouteState, changed}
-use Rattle.ixl_state.specs.ixl_spec.Step.{Accepted, Commands, Datagram, Input, Reply, Tick, answer_by, as_found, given, reply, stepped}
+use Rattle.ixl_state.specs.ixl_spec.Step.{Accepted, Commands, Datagram, Input, Reply, Tick, all_clocked, answer_by, given, reply, stepped}
 use Rattle.ixl_state.specs.ixl_spec.StepSoFar.{begun_with, empty_outbox}
 use Rattle.ixl_state.specs.ixl_spec.Table.{Table}
 use Rattle.ixl_state.specs.ixl_spec.View.{is_holding, is_set}
@@ -23,7 +23,6 @@ use Rattle.ixl_laws.specs.Onward.{IsOnward, order_of}
 use Rattle.ixl_laws.specs.Operations.{IsCancelledAndEnded, IsUnreleased, ReleasedAreEnded, released_after}
 use Rattle.ixl_laws.proofs.Apart.{set_back}
 use Rattle.ixl_laws.proofs.Following.{FollowsAll}
-use Rattle.ixl_laws.proofs.Found.{found_in, left_in, route_in, route_left}
 use Rattle.ixl_laws.proofs.KeptBehind.{behind_input, command_stays, left_by, others_stay, stepped_stays}
 use Rattle.ixl_laws.proofs.PickedByTest.{changed_elsewhere, changed_here, none_is, some_same}
 use Rattle.ixl_laws.proofs.RoutesGoOn.{given_goes, where_none}
@@ -87,20 +86,20 @@ left_clock now (Some cause) command ixl number before after there also =
 -- behind the input
 pub heard_clock : (now : ℕ) (table : Table) (key : Key) (input : Input) (ixl : IxlState) (number : ℕ) (before after : RouteState) → slice_get ixl.routes number ≡ Some before →
     slice_get (behind_input now table key input ixl).ixl.routes number ≡ Some after → after.released ≡ released_after now input (reply now table key input ixl) number before.released
-unfolding given reply as_found
-heard_clock now table key Tick ixl number before after there also = ap (λ (r : RouteState). r.released) (some_same (sym also ∙ route_left now ixl number before there))
+unfolding given reply all_clocked
+heard_clock now table key Tick ixl number before after there also = ap (λ (r : RouteState). r.released) (some_same (sym also ∙ there))
 heard_clock now table key (Datagram bytes) ixl number before after there also =
     let mid = (others_stay now table key bytes ixl).follow number after also
     in mid.2.released ∙ ap (λ (r : RouteState). r.released) (some_same (sym mid.1 ∙ there))
 heard_clock now table key (Commands command) ixl number before after there also =
     let mid = (command_stays now table key command ixl).follow number after also
-    in mid.2.released ∙ left_clock now (refusal now table command (as_found now ixl)) command (as_found now ixl) number before mid.0 there mid.1
+    in mid.2.released ∙ left_clock now (refusal now table command (all_clocked now ixl)) command (all_clocked now ixl) number before mid.0 there mid.1
 
 -- a route that is kept then was kept before
 pub was_kept : (now : ℕ) (table : Table) (key : Key) (input : Input) (ixl : IxlState) (number : ℕ) (after : RouteState) → slice_get (behind_input now table key input ixl).ixl.routes number ≡ Some after →
     (before : RouteState) × (slice_get ixl.routes number ≡ Some before)
-was_kept now table key input ixl number after is =
-    let before = given_goes now table key input (left_in now ixl) number after is in (before.0, route_in now ixl number before.0 before.1)
+unfolding all_clocked
+was_kept now table key input ixl number after is = let before = given_goes now table key input (begun_with (all_clocked now ixl) empty_outbox) number after is in (before.0, before.1)
 
 pub step_clock : (now : ℕ) (input : Input) (old new : InterlockingState) (answer : Reply) (number : ℕ) (before after : RouteState) → HasStepped now input old new answer →
     slice_get old.state.ixl.routes number ≡ Some before → slice_get new.state.ixl.routes number ≡ Some after → after.released ≡ released_after now input answer number before.released
@@ -178,12 +177,12 @@ left_ended now table (Some refused) command ixl told ended = ended
 left_ended now table None command ixl told ended = obeyed_ended now table command ixl told ended
 
 pub input_ended : (now : ℕ) (table : Table) (key : Key) (input : Input) (ixl : IxlState) → ReleasedAreEnded ixl → ReleasedAreEnded (behind_input now table key input ixl).ixl
-unfolding given as_found
-input_ended now table key Tick ixl ended = subst ReleasedAreEnded (sym (found_in now ixl)) ended
+unfolding given all_clocked
+input_ended now table key Tick ixl ended = ended
 input_ended now table key (Datagram bytes) ixl ended = ended_still ixl (behind_input now table key (Datagram bytes) ixl).ixl (others_stay now table key bytes ixl).follow ended
 input_ended now table key (Commands command) ixl ended =
     ended_still (left_by now table command ixl) (behind_input now table key (Commands command) ixl).ixl (command_stays now table key command ixl).follow
-    (left_ended now table (refusal now table command (as_found now ixl)) command (as_found now ixl) refl ended)
+    (left_ended now table (refusal now table command (all_clocked now ixl)) command (all_clocked now ixl) refl ended)
 
 pub step_ended : (now : ℕ) (input : Input) (old new : InterlockingState) (answer : Reply) → HasStepped now input old new answer → ReleasedAreEnded old.state.ixl → ReleasedAreEnded new.state.ixl
 step_ended now input old new answer step ended =

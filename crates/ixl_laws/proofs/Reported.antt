@@ -14,28 +14,25 @@ use Rattle.ixl_state.specs.ixl_client.Client.{ClientState, is_outside}
 use Rattle.ixl_state.specs.ixl_client.Made.{ActsOn, told_by_all}
 use Rattle.ixl_state.specs.ixl_client.ClientSoFar as client
 use Rattle.ixl_state.specs.ixl_client.ClientSoFar.{begun, calling}
-use Rattle.ixl_state.specs.ixl_client.Step.{clocked, closed_behind, hearing, ticking}
+use Rattle.ixl_state.specs.ixl_client.Step.{clocked, hearing, ticking}
 use Rattle.ixl_state.specs.ixl_client.declared.indication.Indication.{Indication}
 use Rattle.ixl_state.specs.ixl_spec.Commands.{commanded_by, moved_at_once, obeyed, refusal}
-use Rattle.ixl_state.specs.ixl_spec.StepSoFar.{Detector, Node, Point, Signal, StepSoFar, detector_after, giving_aspect, giving_move, noted, with_detector, with_route}
+use Rattle.ixl_state.specs.ixl_spec.StepSoFar.{Detector, Node, Point, Signal, StepSoFar, begun_with, detector_after, empty_outbox, giving_aspect, giving_move, noted, with_detector, with_route}
 use Rattle.ixl_state.specs.ixl_spec.State.{IxlState, KnownDetectorState, RouteState}
-use Rattle.ixl_state.specs.ixl_spec.Step.{Commands, Datagram, Input, Reply, Tick, addressed, as_found, clocked_detector, closed_detector, detector_hearing, detector_ticking, given, is_told_occupied, known_point_hearing, known_point_ticking, known_signal_hearing, known_signal_ticking, looking, looks, node_hearing, occupied_heard, stepped, ticked}
+use Rattle.ixl_state.specs.ixl_spec.Step.{Commands, Datagram, Input, Reply, Tick, addressed, all_clocked, clocked_detector, detector_hearing, detector_ticking, given, is_told_occupied, known_point_hearing, known_point_ticking, known_signal_hearing, known_signal_ticking, looking, looks, node_hearing, occupied_heard, stepped, ticked}
 use Rattle.ixl_state.specs.ixl_spec.Table.{Table}
 use Rattle.ixl_state.specs.ixl_spec.declared.command.Command.{Command}
 use Rattle.ixl_state.specs.ixl_spec.declared.command.Command.TheVariants as commands
 use Rattle.ixl_state.specs.ixl_spec.declared.command.Refusal.{Refusal}
 use Rattle.ixl_state.specs.First.{Beginning, key_of, new_detector_of, new_ixl}
 use Rattle.ixl.specs.Interlocking.{HasStepped, InterlockingState, step_of}
-use Rattle.ixl_laws.specs.Answered.{found, kept_by}
+use Rattle.ixl_laws.specs.Answered.{kept_by}
 use Rattle.ixl_laws.specs.History.{last_told}
 use Rattle.ixl_laws.specs.Nodes.{is_node, of_node}
-use Rattle.ixl_laws.specs.WholeStep.{clock_left}
 use Rattle.ixl_laws.specs.Reported.{GoesOnReported, IsReported, told_at}
 use Rattle.ixl_laws.proofs.Answered.{was_mapped}
 use Rattle.ixl_laws.proofs.CalledSteps.{ticking_acts}
 use Rattle.ixl_laws.proofs.Clients.{becomes_there, detector_client, mapped}
-use Rattle.ixl_laws.proofs.ClosedFirst.{left_unacted}
-use Rattle.ixl_laws.proofs.Found.{closed_peer, closed_stage, found_is}
 use Rattle.ixl_laws.proofs.Hears.{fallen_peer, inside_stays}
 use Rattle.ixl_laws.proofs.HistoryLists.{last_joined}
 use Rattle.ixl_laws.proofs.Nodes.{noted_elsewhere, noted_here}
@@ -99,12 +96,8 @@ inside_of : (set : Places) (one : ClientState) → is_outside (detector_after se
 inside_of set one inside = ap (λ (c : ClientState). is_outside c.stage) (sym (detector_client set one)) ∙ inside
 
 module _ (now place : ℕ) (before : KnownDetectorState) (told : List Indication) where
-  -- the detector as the input finds it
-  abbrev start : KnownDetectorState
-  start = closed_detector now (clocked_detector now before)
-
   abbrev kept : List Indication
-  kept = kept_by (found now before.client) told
+  kept = kept_by (clocked now before.client) told
 
   abbrev all_told : StepSoFar → List Indication
   all_told part = kept ++ told_by_all before.client.peer (of_node (Detector place) part.acted)
@@ -133,23 +126,12 @@ module _ (now place : ℕ) (before : KnownDetectorState) (told : List Indication
   unfolding clocked
   clocked_stage inside = inside_stays (record before.client { link = settled now before.client.link }) inside
 
-  settled_is : (clocked_detector now before).client ≡ clocked now before.client
-  settled_is = detector_client before.occupied (clocked now before.client)
-
-  clocked_inside : is_outside (found now before.client).stage ≡ false → is_outside (clocked now before.client).stage ≡ false
-  clocked_inside inside = ap is_outside (sym (closed_stage now (clocked now before.client) inside)) ∙ inside
-
-  found_outside : (b : Bool) → is_outside (found now before.client).stage ≡ b → is_outside (closed_behind now (clocked_detector now before).client).stage ≡ b
-  found_outside b is = ap (λ (c : ClientState). is_outside (closed_behind now c).stage) settled_is ∙ is
-
   -- before anything is heard a section is kept as it was told, also where the connection is gone
-  begins_as_told : IsReported told before → (own : ℕ) → contains start.occupied own ≡ last_told false (told_at own kept)
-  begins_as_told was own = by_stage (is_outside (found now before.client).stage) refl where
-    by_stage : (b : Bool) → is_outside (found now before.client).stage ≡ b → contains start.occupied own ≡ last_told false (told_at own (if b then [] else told))
-    by_stage true outside = ap (λ (set : Places). contains set own) (occupied_outside (clocked_detector now before).occupied (closed_behind now (clocked_detector now before).client) (found_outside true outside)) ∙ contains-empty nat_cmp own
-    by_stage false inside = ap (λ (set : Places). contains set own) (occupied_inside (clocked_detector now before).occupied (closed_behind now (clocked_detector now before).client) (found_outside false inside)
-        ∙ occupied_inside before.occupied (clocked now before.client) (clocked_inside inside))
-        ∙ was (ap is_outside (sym (clocked_stage (clocked_inside inside))) ∙ clocked_inside inside) own
+  begins_as_told : IsReported told before → (own : ℕ) → contains (clocked_detector now before).occupied own ≡ last_told false (told_at own kept)
+  begins_as_told was own = by_stage (is_outside (clocked now before.client).stage) refl where
+    by_stage : (b : Bool) → is_outside (clocked now before.client).stage ≡ b → contains (clocked_detector now before).occupied own ≡ last_told false (told_at own (if b then [] else told))
+    by_stage true outside = ap (λ (set : Places). contains set own) (occupied_outside before.occupied (clocked now before.client) outside) ∙ contains-empty nat_cmp own
+    by_stage false inside = ap (λ (set : Places). contains set own) (occupied_inside before.occupied (clocked now before.client) inside) ∙ was (ap is_outside (sym (clocked_stage inside)) ∙ inside) own
 
   module _ (old : InterlockingState) (is : slice_get old.state.ixl.detectors place ≡ Some before) (was : IsReported told before) (acts : (bytes : List ℕ) (part : client.ClientSoFar) → ActsOn now bytes part (hearing now bytes part))
       (same_receipt : (bytes : List ℕ) (part : client.ClientSoFar) → (hearing now bytes part).client.peer ≡ part.client.peer) (same_tick : (part : client.ClientSoFar) → (ticking now part).client.peer ≡ part.client.peer) where
@@ -157,51 +139,50 @@ module _ (now place : ℕ) (before : KnownDetectorState) (told : List Indication
     table = old.state.sited.table
 
     abbrev first : StepSoFar
-    first = clock_left now old
+    first = begun_with (all_clocked now old.state.ixl) empty_outbox
 
-    first_there : slice_get first.ixl.detectors place ≡ Some start
-    unfolding as_found
-    first_there = ap (λ (i : IxlState). slice_get i.detectors place) (found_is now old) ∙ mapped (λ one. closed_detector now (clocked_detector now one)) place old.state.ixl.detectors before is
+    first_there : slice_get first.ixl.detectors place ≡ Some (clocked_detector now before)
+    unfolding all_clocked
+    first_there = mapped (clocked_detector now) place old.state.ixl.detectors before is
 
-    first_peer : start.client.peer ≡ before.client.peer
-    first_peer = ap (λ (c : ClientState). c.peer) (detector_client (clocked_detector now before).occupied (closed_behind now (clocked_detector now before).client) ∙ ap (closed_behind now) settled_is)
-        ∙ closed_peer now (clocked now before.client) ∙ clocked_peer
+    first_peer : (clocked_detector now before).client.peer ≡ before.client.peer
+    first_peer = ap (λ (c : ClientState). c.peer) (detector_client before.occupied (clocked now before.client)) ∙ clocked_peer
 
     begins : Fine first
-    unfolding told_by_all
+    unfolding of_node told_by_all
     begins = record {
-      detector = start;
+      detector = clocked_detector now before;
       there = first_there;
       peer = first_peer;
-      reported = subst (λ list. IsReported (kept ++ told_by_all before.client.peer list) start) (sym (left_unacted now old (Detector place)))
-          (λ inside own. begins_as_told was own ∙ ap (λ list. last_told false (told_at own list)) (sym (append-nil kept)));
+      reported = λ inside own. begins_as_told was own ∙ ap (λ list. last_told false (told_at own list)) (sym (append-nil kept));
     }
 
     -- ---- a datagram
 
     module _ (bytes : List ℕ) where
       abbrev done : client.ClientSoFar
-      done = hearing now bytes (begun start.client first.outbox)
+      done = hearing now bytes (begun (clocked_detector now before).client empty_outbox)
 
       abbrev base : StepSoFar
-      base = with_detector place (detector_after (occupied_heard done.heard start.occupied) done.client) (noted (Detector place) done first)
+      base = with_detector place (detector_after (occupied_heard done.heard (clocked_detector now before).occupied) done.client) (noted (Detector place) done first)
 
       heard_here : Fine base
+      unfolding of_node
       heard_here = record {
-        detector = detector_after (occupied_heard done.heard start.occupied) done.client;
-        there = becomes_there place _ first.ixl.detectors start first_there;
-        peer = ap (λ (c : ClientState). c.peer) (detector_client (occupied_heard done.heard start.occupied) done.client) ∙ same_receipt bytes (begun start.client first.outbox) ∙ first_peer;
+        detector = detector_after (occupied_heard done.heard (clocked_detector now before).occupied) done.client;
+        there = becomes_there place _ first.ixl.detectors (clocked_detector now before) first_there;
+        peer = ap (λ (c : ClientState). c.peer) (detector_client (occupied_heard done.heard (clocked_detector now before).occupied) done.client) ∙ same_receipt bytes (begun (clocked_detector now before).client empty_outbox) ∙ first_peer;
         reported = λ inside own.
-            ap (λ (set : Places). contains set own) (occupied_inside (occupied_heard done.heard start.occupied) done.client (inside_of _ done.client inside))
-            ∙ heard_last own done.heard start.occupied ∙ ap (λ b. last_told b (told_at own done.heard)) (begins_as_told was own)
+            ap (λ (set : Places). contains set own) (occupied_inside (occupied_heard done.heard (clocked_detector now before).occupied) done.client (inside_of _ done.client inside))
+            ∙ heard_last own done.heard (clocked_detector now before).occupied ∙ ap (λ b. last_told b (told_at own done.heard)) (begins_as_told was own)
             ∙ sym (last_joined false (told_at own kept) (told_at own done.heard)) ∙ ap (last_told false) (sym (at_joined own kept done.heard))
             ∙ ap (λ list. last_told false (told_at own (kept ++ list))) heard_is;
       } where
-        acting : ActsOn now bytes (begun start.client first.outbox) done
-        acting = acts bytes (begun start.client first.outbox)
+        acting : ActsOn now bytes (begun (clocked_detector now before).client empty_outbox) done
+        acting = acts bytes (begun (clocked_detector now before).client empty_outbox)
 
         heard_is : done.heard ≡ told_by_all before.client.peer (of_node (Detector place) base.acted)
-        heard_is = acting.heard ∙ ap (λ peer. told_by_all peer acting.items) first_peer ∙ ap (told_by_all before.client.peer) (sym (noted_here (Detector place) first.acted done.acted ∙ ap (λ items. items ++ done.acted) (left_unacted now old (Detector place)) ∙ acting.acted))
+        heard_is = acting.heard ∙ ap (λ peer. told_by_all peer acting.items) first_peer ∙ ap (told_by_all before.client.peer) (sym (noted_here (Detector place) [] done.acted ∙ acting.acted))
 
       -- what is heard of another controller
       elsewhere : (node : Node) (part : StepSoFar) (made : client.ClientSoFar) → is_node (Detector place) node ≡ false → slice_get part.ixl.detectors place ≡ slice_get first.ixl.detectors place →
@@ -215,23 +196,23 @@ module _ (now place : ℕ) (before : KnownDetectorState) (told : List Indication
       }
 
       detector_here : (other : ℕ) (detector : KnownDetectorState) → slice_get first.ixl.detectors other ≡ Some detector → other ≡ place →
-          Fine (with_detector other (detector_after (occupied_heard (hearing now bytes (begun detector.client first.outbox)).heard detector.occupied) (hearing now bytes (begun detector.client first.outbox)).client)
-          (noted (Detector other) (hearing now bytes (begun detector.client first.outbox)) first))
+          Fine (with_detector other (detector_after (occupied_heard (hearing now bytes (begun detector.client empty_outbox)).heard detector.occupied) (hearing now bytes (begun detector.client empty_outbox)).client)
+          (noted (Detector other) (hearing now bytes (begun detector.client empty_outbox)) first))
       detector_here other detector found same =
-          subst (λ n. Fine (with_detector n (detector_after (occupied_heard (hearing now bytes (begun detector.client first.outbox)).heard detector.occupied) (hearing now bytes (begun detector.client first.outbox)).client)
-          (noted (Detector n) (hearing now bytes (begun detector.client first.outbox)) first))) (sym same)
-          (subst (λ (d : KnownDetectorState). Fine (with_detector place (detector_after (occupied_heard (hearing now bytes (begun d.client first.outbox)).heard d.occupied) (hearing now bytes (begun d.client first.outbox)).client)
-          (noted (Detector place) (hearing now bytes (begun d.client first.outbox)) first))) (some_same (sym first_there ∙ ap (slice_get first.ixl.detectors) (sym same) ∙ found)) heard_here)
+          subst (λ n. Fine (with_detector n (detector_after (occupied_heard (hearing now bytes (begun detector.client empty_outbox)).heard detector.occupied) (hearing now bytes (begun detector.client empty_outbox)).client)
+          (noted (Detector n) (hearing now bytes (begun detector.client empty_outbox)) first))) (sym same)
+          (subst (λ (d : KnownDetectorState). Fine (with_detector place (detector_after (occupied_heard (hearing now bytes (begun d.client empty_outbox)).heard d.occupied) (hearing now bytes (begun d.client empty_outbox)).client)
+          (noted (Detector place) (hearing now bytes (begun d.client empty_outbox)) first))) (some_same (sym first_there ∙ ap (slice_get first.ixl.detectors) (sym same) ∙ found)) heard_here)
 
       detector_fine : (other : ℕ) (detector : KnownDetectorState) → slice_get first.ixl.detectors other ≡ Some detector →
-          Fine (with_detector other (detector_after (occupied_heard (hearing now bytes (begun detector.client first.outbox)).heard detector.occupied) (hearing now bytes (begun detector.client first.outbox)).client)
-          (noted (Detector other) (hearing now bytes (begun detector.client first.outbox)) first))
+          Fine (with_detector other (detector_after (occupied_heard (hearing now bytes (begun detector.client empty_outbox)).heard detector.occupied) (hearing now bytes (begun detector.client empty_outbox)).client)
+          (noted (Detector other) (hearing now bytes (begun detector.client empty_outbox)) first))
       detector_fine other detector found = by_place (other == place) refl where
         by_place : (b : Bool) → (other == place) ≡ b →
-            Fine (with_detector other (detector_after (occupied_heard (hearing now bytes (begun detector.client first.outbox)).heard detector.occupied) (hearing now bytes (begun detector.client first.outbox)).client)
-            (noted (Detector other) (hearing now bytes (begun detector.client first.outbox)) first))
+            Fine (with_detector other (detector_after (occupied_heard (hearing now bytes (begun detector.client empty_outbox)).heard detector.occupied) (hearing now bytes (begun detector.client empty_outbox)).client)
+            (noted (Detector other) (hearing now bytes (begun detector.client empty_outbox)) first))
         by_place true same = detector_here other detector found (eqb-true other place same)
-        by_place false apart = elsewhere (Detector other) _ (hearing now bytes (begun detector.client first.outbox)) apart
+        by_place false apart = elsewhere (Detector other) _ (hearing now bytes (begun detector.client empty_outbox)) apart
             (changed_elsewhere _ other place first.ixl.detectors (λ same. false≢true (sym apart ∙ eq-eqb other place (sym same)))) refl
 
       route_fine : (number : ℕ) (change : RouteState → RouteState) (part : StepSoFar) → Fine part → Fine (with_route number change part)
@@ -239,10 +220,10 @@ module _ (now place : ℕ) (before : KnownDetectorState) (told : List Indication
 
       node_fine : (node : Node) → Fine (node_hearing now table bytes node first)
       unfolding node_hearing known_signal_hearing known_point_hearing detector_hearing
-      node_fine (Signal other) = with_one_holds Fine (slice_get first.ixl.known_signals other) _ first (λ known_signal found. elsewhere (Signal other) _ (hearing now bytes (begun known_signal.client first.outbox)) refl refl refl) begins
-      node_fine (Point other) = with_one_holds Fine (slice_get first.ixl.known_points other) _ first (λ known_point found. elsewhere (Point other) _ (hearing now bytes (begun known_point.client first.outbox)) refl refl refl) begins
+      node_fine (Signal other) = with_one_holds Fine (slice_get first.ixl.known_signals other) _ first (λ known_signal found. elsewhere (Signal other) _ (hearing now bytes (begun known_signal.client empty_outbox)) refl refl refl) begins
+      node_fine (Point other) = with_one_holds Fine (slice_get first.ixl.known_points other) _ first (λ known_point found. elsewhere (Point other) _ (hearing now bytes (begun known_point.client empty_outbox)) refl refl refl) begins
       node_fine (Detector other) = with_one_holds Fine (slice_get table.detectors other) _ first (λ sections listed. with_one_holds Fine (slice_get first.ixl.detectors other) _ first (λ detector found.
-          along_holds Fine (looking table) (looking_holds Fine route_fine table) (looks sections detector (hearing now bytes (begun detector.client first.outbox)).heard (hearing now bytes (begun detector.client first.outbox)).client) _
+          along_holds Fine (looking table) (looking_holds Fine route_fine table) (looks sections detector (hearing now bytes (begun detector.client empty_outbox)).heard (hearing now bytes (begun detector.client empty_outbox)).client) _
           (detector_fine other detector found)) begins) begins
 
     -- ---- the input, the rules and ticks
@@ -334,7 +315,7 @@ module _ (now place : ℕ) (before : KnownDetectorState) (told : List Indication
     pub goes_on_reported : (input : Input) (new : InterlockingState) (answer : Reply) (after : KnownDetectorState) → HasStepped now input old new answer → slice_get new.state.ixl.detectors place ≡ Some after → GoesOnReported now input old place before after told
     unfolding stepped
     goes_on_reported input new answer after step also =
-        let ends : Fine (step_of now input old.state) = ticked_fine input _ (ruled_holds Fine now changes_fine table _ (seen_holds Fine (λ number change part is. same_fine part (with_route number change part) refl refl is) table now _ (given_fine input)))
+        let ends : Fine (step_of now input old.state) = ticked_fine input _ (ruled_holds Fine now changes_fine table _ (seen_holds Fine (λ number change part is. same_fine part (with_route number change part) refl refl is) table _ (given_fine input)))
         in subst (IsReported (all_told (step_of now input old.state))) (some_same (sym ends.there ∙ ap (λ (ixl : IxlState). slice_get ixl.detectors place) (sym step.ixl) ∙ also)) ends.reported
 
 -- ---- an interlocking that was just made

@@ -8,10 +8,10 @@ use Rattle.std.specs.Option.{option_or}
 use Rattle.ixl_state.specs.ixl_spec.Commands.{closed_refusal, commanded_by, locking_refusal, moved_at_once, obeyed, refusal, refused_where, released_at, request_refusal, set_anew}
 use Rattle.ixl_state.specs.ixl_client.ClientSoFar.{begun}
 use Rattle.ixl_state.specs.ixl_client.Step.{hearing}
-use Rattle.ixl_state.specs.ixl_spec.StepSoFar.{Detector, Node, StepSoFar, Point, Signal, along, at_route, detector_after, giving_aspect, giving_move, noted, over, with_detector, with_one, with_route}
+use Rattle.ixl_state.specs.ixl_spec.StepSoFar.{Detector, Node, StepSoFar, Point, Signal, along, at_route, begun_with, detector_after, empty_outbox, giving_aspect, giving_move, noted, over, with_detector, with_one, with_route}
 use Rattle.ixl_state.specs.ixl_spec.Rules.{authorised, come_to, count, ending_authority, freed, freeing_by_cancel, freeing_by_passage, freeing_next, frees_cancelled, frees_next, is_move_due, is_proceed_due, is_proceeding, is_stop_due, is_waiting, is_withdrawn, moving, moving_one, one_freed, proceeding, repeated, ruled, stopped, withdrawing}
 use Rattle.ixl_state.specs.ixl_spec.State.{KnownDetectorState, IxlState, RouteState, changed}
-use Rattle.ixl_state.specs.ixl_spec.Step.{Commands, Datagram, Input, Reply, Tick, Accepted, addressed, answer_by, as_found, detector_hearing, detector_ticking, given, known_signal_hearing, known_signal_ticking, looking, looking_by, looks, node_hearing, noting, occupied_heard, reply, route_looks, stepped, known_point_hearing, known_point_ticking, ticked, watching}
+use Rattle.ixl_state.specs.ixl_spec.Step.{Commands, Datagram, Input, Reply, Tick, Accepted, addressed, all_clocked, answer_by, detector_hearing, detector_ticking, given, known_signal_hearing, known_signal_ticking, looking, looking_by, looks, node_hearing, occupied_heard, reply, route_looks, stepped, known_point_hearing, known_point_ticking, ticked, watching}
 use Rattle.ixl_state.specs.ixl_spec.Table.{Need, Row, Table}
 use Rattle.ixl_state.specs.ixl_spec.View.{is_at_known_stop, is_holding, is_set, is_signal_ready, place_in, was_authorised}
 use Rattle.ixl_state.specs.ixl_spec.declared.command.Command.{Command}
@@ -24,8 +24,6 @@ use Rattle.ixl_state.specs.layout.declared.ids.RouteId.{RouteId}
 use Rattle.ixl_state.specs.First.{key_of}
 use Rattle.ixl.specs.Interlocking.{HasStepped, InterlockingState}
 use Rattle.ixl_laws.specs.Onward.{GoesOn, IsOnward}
-use Rattle.ixl_laws.specs.WholeStep.{clock_left}
-use Rattle.ixl_laws.proofs.Found.{found_is, route_in, route_left}
 use Rattle.ixl_laws.proofs.Onward.{OnwardAll, all_same, all_then, one_changes, onward_same, onward_then, to_free}
 use Rattle.ixl_laws.proofs.PickedByTest.{both, either, none_is, picked, some_is, some_same}
 
@@ -216,11 +214,6 @@ unfolding watching
 watching_goes table number part = at_route_goes table number _ part (λ row route is.
     either (PartGoes part) (is_proceeding route.phase || is_withdrawn route.phase) _ _ (with_route_goes number _ part (λ other also. onward_same other.phase)) (same_goes part part refl))
 
-noting_goes : (now : ℕ) (table : Table) (number : ℕ) (part : StepSoFar) → PartGoes part (noting now table number part)
-unfolding noting
-noting_goes now table number part = at_route_goes table number _ part (λ row route is.
-    either (PartGoes part) (table.is_strict && was_authorised route.phase) _ _ (with_route_goes number _ part (λ other also. onward_same other.phase)) (same_goes part part refl))
-
 pub looks_phase : (section : ℕ) (occupied : Bool) (row : Row) (route : RouteState) → (route_looks section occupied row route).phase ≡ route.phase
 looks_phase section occupied row route = by_place (place_in section row.sections) refl where
   by_place : (place : Option ℕ) → place_in section row.sections ≡ place → (route_looks section occupied row route).phase ≡ route.phase
@@ -291,17 +284,15 @@ ticked_goes now Tick part = then_goes part points _ (then_goes part known_signal
 
 -- what a step does after its input
 behind : ℕ → Table → Input → StepSoFar → StepSoFar
-behind now table input heard = ticked now input (ruled now table (over (noting now table) (count table) (over (watching table) (count table) heard)))
+behind now table input heard = ticked now input (ruled now table (over (watching table) (count table) heard))
 
 behind_goes : (now : ℕ) (table : Table) (input : Input) (heard : StepSoFar) → PartGoes heard (behind now table input heard)
 unfolding behind
-behind_goes now table input heard = then_goes heard seen _
-    (then_goes heard (over (watching table) (count table) heard) seen (over_goes (watching table) (watching_goes table) (count table) heard)
-    (over_goes (noting now table) (noting_goes now table) (count table) (over (watching table) (count table) heard)))
+behind_goes now table input heard = then_goes heard seen _ (over_goes (watching table) (watching_goes table) (count table) heard)
     (then_goes seen (ruled now table seen) _ (ruled_goes now table seen) (ticked_goes now input (ruled now table seen)))
   where
     seen : StepSoFar
-    seen = over (noting now table) (count table) (over (watching table) (count table) heard)
+    seen = over (watching table) (count table) heard
 
 datagram_goes : (now : ℕ) (table : Table) (key : Key) (bytes : List ℕ) (part : StepSoFar) → PartGoes part (given now table key (Datagram bytes) part)
 unfolding given
@@ -386,28 +377,22 @@ request_free now table route ixl before is none = by_row (slice_get table.rows r
 -- ---- a step of an interlocking
 
 pub accepted_is : (command : Command) (now : ℕ) (table : Table) (key : Key) (ixl : IxlState) (answer : Reply) → answer ≡ reply now table key (Commands command) ixl →
-    refusal now table command (as_found now ixl) ≡ None → answer ≡ Accepted
+    refusal now table command (all_clocked now ixl) ≡ None → answer ≡ Accepted
 unfolding reply
 accepted_is command now table key ixl answer answered none = answered ∙ ap answer_by none
 
 command_goes : (now : ℕ) (command : Command) (old new : InterlockingState) (answer : Reply) (number : ℕ) (before after : RouteState) → HasStepped now (Commands command) old new answer →
     slice_get old.state.ixl.routes number ≡ Some before → slice_get new.state.ixl.routes number ≡ Some after → GoesOn (Commands command) answer number before.phase after.phase
-unfolding stepped given ticked behind PartGoes OnwardAll Becomes
+unfolding stepped given ticked behind all_clocked PartGoes OnwardAll Becomes
 command_goes now command old new answer number before after step is also = by_refusal (refusal now table command clocked) refl where
   table : Table
   table = old.state.sited.table
 
-  left : StepSoFar
-  left = clock_left now old
-
   clocked : IxlState
-  clocked = (clock_left now old).ixl
-
-  there : slice_get (clock_left now old).ixl.routes number ≡ Some before
-  there = route_left now old.state.ixl number before is
+  clocked = all_clocked now old.state.ixl
 
   kept_by : Option Refusal → StepSoFar
-  kept_by cause = record left { ixl = commanded_by now cause command clocked }
+  kept_by cause = record (begun_with clocked empty_outbox) { ixl = commanded_by now cause command clocked }
 
   heard_by : Option Refusal → StepSoFar
   heard_by cause = moved_at_once now cause command (kept_by cause)
@@ -423,30 +408,30 @@ command_goes now command old new answer number before after step is also = by_re
   by_refusal : (cause : Option Refusal) → refusal now table command clocked ≡ cause → GoesOn (Commands command) answer number before.phase after.phase
   by_refusal (Some cause) told =
       let mid = mid_of (Some cause) told
-      in inl (subst (λ (r : RouteState). IsOnward r.phase after.phase) (some_same (sym mid.1 ∙ there)) mid.2)
-  by_refusal None told = by_becoming (command_becomes now command clocked number before mid.0 there mid.1) where
+      in inl (subst (λ (r : RouteState). IsOnward r.phase after.phase) (some_same (sym mid.1 ∙ is)) mid.2)
+  by_refusal None told = by_becoming (command_becomes now command clocked number before mid.0 is mid.1) where
     mid : (mid : RouteState) × (slice_get (obeyed now command clocked).routes number ≡ Some mid) × IsOnward mid.phase after.phase
     mid = mid_of None told
 
     by_becoming : Becomes command number before mid.0 → GoesOn (Commands command) answer number before.phase after.phase
     by_becoming (inl onward) = inl (onward_then before.phase mid.0.phase after.phase onward mid.2)
-    by_becoming (inr anew) = inr (record {
-      request = ap Commands anew.0;
-      accepted = accepted_is command now table (key_of old.state.sited.site) old.state.ixl answer step.answered (ap (refusal now table command) (sym (found_is now old)) ∙ told);
-      free = request_free now table (record { 0 = number }) clocked before there (ap (λ (c : Command). refusal now table c clocked) (sym anew.0) ∙ told);
-      onward = subst (λ (p : Phase). IsOnward p after.phase) anew.1 mid.2;
+    by_becoming (inr there) = inr (record {
+      request = ap Commands there.0;
+      accepted = accepted_is command now table (key_of old.state.sited.site) old.state.ixl answer step.answered told;
+      free = request_free now table (record { 0 = number }) clocked before is (ap (λ (c : Command). refusal now table c clocked) (sym there.0) ∙ told);
+      onward = subst (λ (p : Phase). IsOnward p after.phase) there.1 mid.2;
     })
 
 other_goes : (now : ℕ) (input : Input) (old new : InterlockingState) (answer : Reply) (number : ℕ) (before after : RouteState) → HasStepped now input old new answer →
-    PartGoes (clock_left now old) (given now old.state.sited.table (key_of old.state.sited.site) input (clock_left now old)) →
+    PartGoes (begun_with (all_clocked now old.state.ixl) empty_outbox) (given now old.state.sited.table (key_of old.state.sited.site) input (begun_with (all_clocked now old.state.ixl) empty_outbox)) →
     slice_get old.state.ixl.routes number ≡ Some before → slice_get new.state.ixl.routes number ≡ Some after → IsOnward before.phase after.phase
-unfolding stepped behind PartGoes OnwardAll
+unfolding stepped behind all_clocked PartGoes OnwardAll
 other_goes now input old new answer number before after step heard is also =
     let mid = behind_goes now old.state.sited.table input
-    (given now old.state.sited.table (key_of old.state.sited.site) input (clock_left now old)) number after
+    (given now old.state.sited.table (key_of old.state.sited.site) input (begun_with (all_clocked now old.state.ixl) empty_outbox)) number after
     (ap (λ (i : IxlState). slice_get i.routes number) (sym step.ixl) ∙ also)
     in let first = heard number mid.0 mid.1
-    in subst (λ (r : RouteState). IsOnward r.phase after.phase) (some_same (sym first.1 ∙ route_left now old.state.ixl number before is)) (onward_then first.0.phase mid.0.phase after.phase first.2 mid.2)
+    in subst (λ (r : RouteState). IsOnward r.phase after.phase) (some_same (sym first.1 ∙ is)) (onward_then first.0.phase mid.0.phase after.phase first.2 mid.2)
 
 pub steps_go_on : (now : ℕ) (input : Input) (old new : InterlockingState) (answer : Reply) (number : ℕ) (before after : RouteState) → HasStepped now input old new answer →
     slice_get old.state.ixl.routes number ≡ Some before → slice_get new.state.ixl.routes number ≡ Some after → GoesOn input answer number before.phase after.phase
@@ -489,13 +474,12 @@ given_kept now table key (Commands command) part number after is =
 
 pub routes_were_there : (now : ℕ) (input : Input) (old new : InterlockingState) (answer : Reply) (number : ℕ) (after : RouteState) → HasStepped now input old new answer →
     slice_get new.state.ixl.routes number ≡ Some after → (before : RouteState) × (slice_get old.state.ixl.routes number ≡ Some before)
-unfolding stepped behind PartGoes OnwardAll
+unfolding stepped behind all_clocked PartGoes OnwardAll
 routes_were_there now input old new answer number after step is =
     let table : Table = old.state.sited.table
-    in let left : StepSoFar = clock_left now old
-    in let mid = behind_goes now table input (given now table (key_of old.state.sited.site) input left) number after (ap (λ (i : IxlState). slice_get i.routes number) (sym step.ixl) ∙ is)
-    in let before = given_kept now table (key_of old.state.sited.site) input left number mid.0 mid.1
-    in (before.0, route_in now old.state.ixl number before.0 before.1)
+    in let clocked : StepSoFar = begun_with (all_clocked now old.state.ixl) empty_outbox
+    in let mid = behind_goes now table input (given now table (key_of old.state.sited.site) input clocked) number after (ap (λ (i : IxlState). slice_get i.routes number) (sym step.ixl) ∙ is)
+    in given_kept now table (key_of old.state.sited.site) input clocked number mid.0 mid.1
 
 -- ---- after the input alone
 

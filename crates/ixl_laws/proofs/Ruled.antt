@@ -6,7 +6,7 @@ use Rattle.ixl_state.specs.sci_telegram.declared.message.Side.{Side}
 use Rattle.ixl_state.specs.ixl_spec.StepSoFar.{StepSoFar, along, at_route, giving_aspect, giving_move, over, with_one, with_route}
 use Rattle.ixl_state.specs.ixl_spec.Rules.{authorised, count, ending_authority, freeing_by_cancel, freeing_by_passage, freeing_next, frees_cancelled, frees_next, is_move_due, is_proceed_due, is_proceeding, is_stop_due, is_withdrawn, moving, moving_one, proceeding, repeated, ruled, stopped, withdrawing}
 use Rattle.ixl_state.specs.ixl_spec.State.{IxlState, RouteState}
-use Rattle.ixl_state.specs.ixl_spec.Step.{all_closing, detector_closing, known_point_closing, known_signal_closing, looking, looking_by, noting, watching}
+use Rattle.ixl_state.specs.ixl_spec.Step.{looking, looking_by, watching}
 use Rattle.ixl_state.specs.ixl_spec.Table.{Need, Row, Table}
 use Rattle.ixl_state.specs.ixl_spec.View.{is_at_known_stop, is_point_available, is_signal_ready, was_authorised}
 use Rattle.ixl_laws.proofs.PickedByTest.{both, either, picked}
@@ -50,17 +50,6 @@ module _ (Holds : StepSoFar → Type 0) where
   at_route_holds table number does part each is =
       with_one_holds (slice_get table.rows number) _ part (λ row there. with_one_holds (slice_get part.ixl.routes number) (does row) part (λ route also. each row route) is) is
 
-  -- ---- links that aren't caught up any more
-
-  module _ (now : ℕ) (signals : (place : ℕ) (part : StepSoFar) → Holds part → Holds (known_signal_closing now place part)) (points : (place : ℕ) (part : StepSoFar) → Holds part → Holds (known_point_closing now place part))
-      (detectors : (place : ℕ) (part : StepSoFar) → Holds part → Holds (detector_closing now place part)) where
-    pub closing_holds : (part : StepSoFar) → Holds part → Holds (all_closing now part)
-    unfolding all_closing
-    closing_holds part is =
-        over_holds (detector_closing now) detectors (length part.ixl.detectors) _
-        (over_holds (known_point_closing now) points (length part.ixl.known_points) _
-        (over_holds (known_signal_closing now) signals (length part.ixl.known_signals) part is))
-
   -- ---- what is seen
 
   module _ (kept : IsKeptByRoutes Holds) (table : Table) where
@@ -68,13 +57,8 @@ module _ (Holds : StepSoFar → Type 0) where
     unfolding watching
     watching_holds number part is = at_route_holds table number _ part (λ row route. either Holds (is_proceeding route.phase || is_withdrawn route.phase) _ _ (kept number _ part is) is) is
 
-    pub noting_holds : (now number : ℕ) (part : StepSoFar) → Holds part → Holds (noting now table number part)
-    unfolding noting
-    noting_holds now number part is = at_route_holds table number _ part (λ row route. either Holds (table.is_strict && was_authorised route.phase) _ _ (kept number _ part is) is) is
-
-    -- approaches are watched, and sections are noted
-    pub seen_holds : (now : ℕ) (part : StepSoFar) → Holds part → Holds (over (noting now table) (count table) (over (watching table) (count table) part))
-    seen_holds now part is = over_holds (noting now table) (noting_holds now) (count table) _ (over_holds (watching table) watching_holds (count table) part is)
+    pub seen_holds : (part : StepSoFar) → Holds part → Holds (over (watching table) (count table) part)
+    seen_holds part is = over_holds (watching table) watching_holds (count table) part is
 
     looking_by_holds : (section : ℕ) (occupied : Bool) (number : ℕ) (part : StepSoFar) → Holds part → Holds (looking_by section occupied table number part)
     unfolding looking_by

@@ -4,13 +4,13 @@ use Rattle.std.specs.Prelude.{Some, slice_get}
 use Rattle.ixl_state.specs.First.{key_of}
 use Rattle.ixl_state.specs.State.{StateView}
 use Rattle.ixl_state.specs.ixl_spec.State.{IxlState, RouteState}
-use Rattle.ixl_state.specs.ixl_spec.Step.{Input, as_found, reply}
+use Rattle.ixl_state.specs.ixl_spec.Step.{Input, all_clocked, reply}
+use Rattle.ixl_state.specs.ixl_spec.StepSoFar.{begun_with, empty_outbox}
 use Rattle.ixl_state.specs.ixl_spec.declared.command.Command.TheVariants as commands
 use Rattle.ixl_state.specs.ixl_spec.declared.phase.Phase.TheVariants as phase
 use Rattle.ixl_laws.specs.GivenOnce.{InNone, OneAfterAnother, ProceedGiven, SetsAnew, StepTaken}
 use Rattle.ixl_laws.specs.Onward.{GoesOn, order_of}
-use Rattle.ixl_laws.specs.WholeStep.{clock_left, heard}
-use Rattle.ixl_laws.proofs.Found.{found_is, route_in}
+use Rattle.ixl_laws.specs.WholeStep.{heard}
 use Rattle.ixl_laws.proofs.GivenOnce.{not_earlier, proceed_comes}
 use Rattle.ixl_laws.proofs.RoutesGoOn.{GoesBehindInput, IsOwnRequest, accepted_is, given_goes, routes_were_there, steps_go_on}
 use Rattle.ixl_laws.proofs.PickedByTest.{none_is, some_same}
@@ -23,7 +23,7 @@ IsPast number ixl = (route : RouteState) → slice_get ixl.routes number ≡ Som
 
 module _ (number : ℕ) (step : StepTaken) where
   -- its own request that is accepted sets it anew
-  own_request : IsOwnRequest step.now step.old.state.sited.table (as_found step.now step.old.state.ixl) step.input number → SetsAnew number step
+  own_request : IsOwnRequest step.now step.old.state.sited.table (all_clocked step.now step.old.state.ixl) step.input number → SetsAnew number step
   own_request own = (
     own.0,
     accepted_is (commands.Request (record { 0 = number })) step.now step.old.state.sited.table (key_of step.old.state.sited.site) step.old.state.ixl step.answer
@@ -32,12 +32,11 @@ module _ (number : ℕ) (step : StepTaken) where
 
   -- after the input it doesn't wait either
   heard_past : (SetsAnew number step → ⊥) → IsPast number step.old.state.ixl → HasCome 1 number (heard step.now step.input step.old)
-  unfolding IsPast
-  heard_past unset past route is = by_way (given_goes step.now step.old.state.sited.table (key_of step.old.state.sited.site) step.input (clock_left step.now step.old) number route is) where
-    by_way : GoesBehindInput step.now step.old.state.sited.table (key_of step.old.state.sited.site) step.input (clock_left step.now step.old) number route → 1 ≤ order_of route.phase
-    by_way (before, there, inl onward) = let first = past before (route_in step.now step.old.state.ixl number before there) in let next = onward.order in omega (arith, first, next)
-    by_way (before, there, inr own) = absurd (unset (own_request
-        (subst (λ (ixl : IxlState). IsOwnRequest step.now step.old.state.sited.table ixl step.input number) (found_is step.now step.old) own)))
+  unfolding IsPast all_clocked
+  heard_past unset past route is = by_way (given_goes step.now step.old.state.sited.table (key_of step.old.state.sited.site) step.input (begun_with (all_clocked step.now step.old.state.ixl) empty_outbox) number route is) where
+    by_way : GoesBehindInput step.now step.old.state.sited.table (key_of step.old.state.sited.site) step.input (begun_with (all_clocked step.now step.old.state.ixl) empty_outbox) number route → 1 ≤ order_of route.phase
+    by_way (before, there, inl onward) = let first = past before there in let next = onward.order in omega (arith, first, next)
+    by_way (before, there, inr own) = absurd (unset (own_request own))
 
   -- so it is given no proceed
   none_given : (SetsAnew number step → ⊥) → IsPast number step.old.state.ixl → ProceedGiven number step → ⊥

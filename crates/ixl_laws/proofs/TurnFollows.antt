@@ -10,7 +10,7 @@ use Rattle.ixl_state.specs.ixl_spec.Table.{Row, Table}
 use Rattle.ixl_state.specs.ixl_spec.declared.phase.Phase.{Phase}
 use Rattle.ixl_state.specs.ixl_spec.declared.phase.Phase.TheVariants as phase
 use Rattle.ixl_laws.specs.Onward.{IsOnward}
-use Rattle.ixl_laws.specs.WholeStep.{Beat, DoesItsTurn, EndAuthority, FreeCancelled, FreeSection, MovePoint, Note, Passed, Proceed, Turn, Watch, Withdraw, approach_seen, beaten, sections_noted}
+use Rattle.ixl_laws.specs.WholeStep.{Beat, DoesItsTurn, EndAuthority, FreeCancelled, FreeSection, MovePoint, Passed, Proceed, Turn, Watch, Withdraw, approach_seen, beaten}
 use Rattle.ixl_laws.proofs.Following.{Follows, follows_authorised, follows_freed, follows_next, follows_to}
 use Rattle.ixl_laws.proofs.KeptBehind.{KeptSince, aspect_stays, detector_stays, known_point_stays, known_signal_stays, move_stays, route_stays, stopped_stays}
 use Rattle.ixl_laws.proofs.Onward.{onward_same}
@@ -40,10 +40,6 @@ module _ (now : ℕ) (table : Table) (closed : Closings) (signals : ℕ) (routes
   turn_kept (Watch place) before after (row, route, is, does) kept lost =
       where_stays Kept before (with_route place (approach_seen table before.ixl row) before) after does kept
       (λ due. route_stays closed signals routes place (approach_seen table before.ixl row) before
-      (λ other at. record { onward = onward_same other.phase; cancelled = λ set. refl; released = refl }) kept) lost
-  turn_kept (Note place) before after (row, route, is, does) kept lost =
-      where_stays Kept before (with_route place (sections_noted now table before.ixl row) before) after does kept
-      (λ due. route_stays closed signals routes place (sections_noted now table before.ixl row) before
       (λ other at. record { onward = onward_same other.phase; cancelled = λ set. refl; released = refl }) kept) lost
   turn_kept (Withdraw place) before after (row, route, is, does) kept lost =
       where_stays Kept before (stopped now row (with_route place (come_to phase.Withdrawn) before)) after does kept

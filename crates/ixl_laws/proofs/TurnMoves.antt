@@ -15,7 +15,7 @@ use Rattle.ixl_state.specs.ixl_spec.StepSoFar.{Detector, Node, Point, Signal, St
 use Rattle.ixl_state.specs.ixl_spec.Table.{Need, Table}
 use Rattle.ixl_state.specs.ixl_spec.View.{is_signal_ready}
 use Rattle.ixl_state.specs.ixl_spec.declared.phase.Phase.TheVariants as phase
-use Rattle.ixl_laws.specs.WholeStep.{Beat, DoesItsTurn, EndAuthority, FreeCancelled, FreeSection, MovePoint, Note, Passed, Proceed, Turn, Watch, Withdraw, approach_seen, beaten, sections_noted}
+use Rattle.ixl_laws.specs.WholeStep.{Beat, DoesItsTurn, EndAuthority, FreeCancelled, FreeSection, MovePoint, Passed, Proceed, Turn, Watch, Withdraw, approach_seen, beaten}
 use Rattle.ixl_laws.proofs.Clients.{known_point_client}
 use Rattle.ixl_laws.proofs.Hears.{inside_stays}
 use Rattle.ixl_laws.proofs.Once.{inside_of, moved_is, moves_count}
@@ -127,8 +127,6 @@ module _ (now : ℕ) (table : Table) (point : ℕ) where
   pub moved_kept : (turn : Turn) (before after : StepSoFar) → DoesItsTurn now table turn before after → HasMoved point before → Stays (HasMoved point after)
   moved_kept (Watch place) before after (row, route, is, does) moved lost =
       where_stays Moved before (with_route place (approach_seen table before.ixl row) before) after does moved (λ due. route_moved point place (approach_seen table before.ixl row) before moved) lost
-  moved_kept (Note place) before after (row, route, is, does) moved lost =
-      where_stays Moved before (with_route place (sections_noted now table before.ixl row) before) after does moved (λ due. route_moved point place (sections_noted now table before.ixl row) before moved) lost
   moved_kept (Withdraw place) before after (row, route, is, does) moved lost =
       where_stays Moved before (stopped now row (with_route place (come_to phase.Withdrawn) before)) after does moved
       (λ due. stop (with_route place (come_to phase.Withdrawn) before) (route_moved point place (come_to phase.Withdrawn) before moved)) lost

@@ -11,7 +11,7 @@ use Rattle.ixl_state.specs.ixl_spec.View.{is_signal_ready}
 use Rattle.ixl_state.specs.ixl_spec.declared.phase.Phase.{Phase}
 use Rattle.ixl_state.specs.ixl_spec.declared.phase.Phase.TheVariants as phase
 use Rattle.ixl_laws.specs.Onward.{order_of}
-use Rattle.ixl_laws.specs.WholeStep.{Beat, DoesItsTurn, EndAuthority, FreeCancelled, FreeSection, MovePoint, Note, Passed, Proceed, Turn, Watch, Withdraw, approach_seen, beaten, sections_noted}
+use Rattle.ixl_laws.specs.WholeStep.{Beat, DoesItsTurn, EndAuthority, FreeCancelled, FreeSection, MovePoint, Passed, Proceed, Turn, Watch, Withdraw, approach_seen, beaten}
 use Rattle.ixl_laws.proofs.PickedByTest.{either, some_same}
 use Rattle.ixl_laws.proofs.TurnKeeps.{Stays, where_stays}
 use Rattle.ixl_laws.proofs.WholeFits.{aspect_keeps, changed_or_same, move_keeps, with_one_keeps}
@@ -75,9 +75,6 @@ module _ (now : ℕ) (table : Table) (far number : ℕ) where
   order_kept (Watch place) before after (row, route, is, does) come lost =
       where_stays Come before (with_route place (approach_seen table before.ixl row) before) after does come
       (λ due. route_come far number place (approach_seen table before.ixl row) before (λ other also. omega arith) come) lost
-  order_kept (Note place) before after (row, route, is, does) come lost =
-      where_stays Come before (with_route place (sections_noted now table before.ixl row) before) after does come
-      (λ due. route_come far number place (sections_noted now table before.ixl row) before (λ other also. omega arith) come) lost
   order_kept (Withdraw place) before after (row, route, is, does) come lost =
       where_stays Come before (stopped now row (with_route place (come_to phase.Withdrawn) before)) after does come
       (λ due. same_come far number (with_route place (come_to phase.Withdrawn) before) (stopped now row (with_route place (come_to phase.Withdrawn) before)) (stopped_keeps now row (with_route place (come_to phase.Withdrawn) before))

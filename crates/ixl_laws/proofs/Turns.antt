@@ -8,7 +8,7 @@ use Rattle.ixl_state.specs.ixl_spec.Table.{Table}
 use Rattle.ixl_laws.specs.WholeStep.{DoesItsTurn, Fits, Follow, Turn, TurnTaken, for_each}
 
 -- something is done for each of a list, the first one first
-unfoldable pub front : {A : Type 0} → (ℕ → StepSoFar → StepSoFar) → ℕ → List A → StepSoFar → StepSoFar
+front : {A : Type 0} → (ℕ → StepSoFar → StepSoFar) → ℕ → List A → StepSoFar → StepSoFar
 front does place [] part = part
 front does place (one ∷ others) part = front does (suc place) others (does place part)
 
@@ -19,7 +19,7 @@ over_from does place (one ∷ others) part =
     let same : place + length (one ∷ others) ≡ suc place + length others = omega arith
     in ap (λ n. over does n part) same ∙ over_from does (suc place) others part
 
-pub over_is : {A : Type 0} (does : ℕ → StepSoFar → StepSoFar) (list : List A) (part : StepSoFar) → over does (length list) part ≡ front does 0 list part
+over_is : {A : Type 0} (does : ℕ → StepSoFar → StepSoFar) (list : List A) (part : StepSoFar) → over does (length list) part ≡ front does 0 list part
 over_is does list part = let same : length list ≡ 0 + length list = omega arith in ap (λ n. over does n part) same ∙ over_from does 0 list part
 
 module _ (now : ℕ) (table : Table) where

@@ -1,40 +1,33 @@
 -- A datagram that the link of its sender refuses leaves what a step without it leaves.
 use Rattle.std.proofs.Common.{◌≡◌, ℕ, zero, suc, Bool, true, false, if◌then◌else◌, List, [], ◌∷◌, ◌++◌, append-nil, refl, ap, sym, ◌∙◌, subst}
-use Rattle.std.specs.Prelude.{◌&&◌, nat_le, map, not, Option, Some, None, Result, Ok, Err, slice_get}
+use Rattle.std.specs.Prelude.{map, not, Option, Some, None, Result, Ok, Err, slice_get}
 use Rattle.std.proofs.lemmas.Bool.{false≢true}
 use Rattle.std.specs.FinSet.{empty}
 use Rattle.ixl_state.specs.rasta_pdu.PduRead.{reading}
 use Rattle.ixl_state.specs.rasta_pdu.declared.fault.PduFault.{PduFault}
 use Rattle.ixl_state.specs.rasta_pdu.declared.pdu.Pdu.{Pdu}
-use Rattle.ixl_state.specs.rasta_core.Calls.{closing_by, receiving}
-use Rattle.ixl_state.specs.rasta_core.CaughtUp.{caught_up, is_recovering}
-use Rattle.ixl_state.specs.rasta_core.Clock.{alive_until, deadline, settled, state_at}
+use Rattle.ixl_state.specs.rasta_core.Calls.{receiving}
+use Rattle.ixl_state.specs.rasta_core.Clock.{settled}
 use Rattle.ixl_state.specs.rasta_core.Outbox.{OutboxState, posted}
-use Rattle.ixl_state.specs.rasta_core.Parameters.{connection_limit}
-use Rattle.ixl_state.specs.rasta_core.PdusHandedOut.{Step, closing, entered, limited, sending, silent, telling}
 use Rattle.ixl_state.specs.rasta_core.Receipt.{Receipt, refusing}
-use Rattle.ixl_state.specs.rasta_core.State.{LinkState, is_open, is_up}
-use Rattle.ixl_state.specs.rasta_core.reason.Reason.TheVariants as reason
+use Rattle.ixl_state.specs.rasta_core.State.{is_up}
 use Rattle.ixl_state.specs.rasta_core.Verdicts.{is_refusal}
 use Rattle.ixl_state.specs.rasta_core.verdict.Verdict.{Verdict}
 use Rattle.ixl_state.specs.rasta_core.verdict.Verdict.TheVariants as verdicts
 use Rattle.ixl_state.specs.ixl_client.Client.{ClientState, is_outside, is_ready}
 use Rattle.ixl_state.specs.ixl_client.ClientSoFar as client
 use Rattle.ixl_state.specs.ixl_client.ClientSoFar.{Receives, begun, calling}
-use Rattle.ixl_state.specs.ixl_client.Step.{acting_all, clocked, closed_behind, ending, fallen, hearing, is_behind, rising, watched}
+use Rattle.ixl_state.specs.ixl_client.Step.{acting_all, clocked, ending, fallen, hearing, rising}
 use Rattle.ixl_state.specs.ixl_client.declared.indication.Indication.{Indication}
 use Rattle.ixl_state.specs.ixl_client.declared.stage.Stage.{Stage}
 use Rattle.ixl_state.specs.ixl_client.declared.stage.Stage.TheVariants as stage
-use Rattle.ixl_state.specs.ixl_spec.StepSoFar.{Detector, Node, StepSoFar, Point, Signal, along, detector_after, known_signal_after, noted, over, known_point_after, with_detector, with_known_signal, with_one, with_known_point}
+use Rattle.ixl_state.specs.ixl_spec.StepSoFar.{Detector, Node, StepSoFar, Point, Signal, along, begun_with, detector_after, empty_outbox, known_signal_after, noted, over, known_point_after, with_detector, with_known_signal, with_one, with_known_point}
 use Rattle.ixl_state.specs.ixl_spec.Rules.{count, ruled}
 use Rattle.ixl_state.specs.ixl_spec.State.{KnownDetectorState, IxlState, KnownSignalState, KnownPointState, changed}
-use Rattle.ixl_state.specs.ixl_spec.Step.{Accepted, Datagram, Received, Refused, Reply, Ticked, addressed, as_found, client_at, client_of, clocked_detector, clocked_known_point, clocked_known_signal, closed_detector, closed_known_point, closed_known_signal, detector_hearing, given, indicated_heard, known_signal_hearing, looking, looks, node_hearing, noting, occupied_heard, reply, side_heard, stepped, known_point_hearing, ticked, verdict_at, verdict_of, watching}
+use Rattle.ixl_state.specs.ixl_spec.Step.{Accepted, Datagram, Received, Refused, Reply, Ticked, addressed, all_clocked, client_at, client_of, clocked_detector, clocked_known_signal, clocked_known_point, detector_hearing, given, indicated_heard, known_signal_hearing, looking, looks, node_hearing, occupied_heard, reply, side_heard, stepped, known_point_hearing, ticked, verdict_at, verdict_of, watching}
 use Rattle.ixl_state.specs.ixl_spec.Table.{Table}
 use Rattle.ixl_state.specs.First.{key_of}
 use Rattle.ixl.specs.Interlocking.{HasStepped, InterlockingState}
-use Rattle.ixl_laws.specs.Answered.{found}
-use Rattle.ixl_laws.specs.WholeStep.{clock_left}
-use Rattle.ixl_laws.proofs.Found.{found_in, found_is, left_in}
 use Rattle.ixl_laws.specs.Refused.{IsInNoConnection, IsWithoutInput, MayHear, step_without_input}
 use Rattle.ixl_laws.proofs.Blind.{Alike, seen_and_ruled}
 use Rattle.ixl_laws.proofs.Clients.{detector_client, known_signal_client, known_point_client}
@@ -45,7 +38,7 @@ use Rattle.ixl_laws.proofs.PickedByTest.{either, none_is, picked, some_same}
 
 -- what a client does with what its link makes of a datagram
 abbrev with_receipt : ℕ → List ℕ → client.ClientSoFar → Receipt → client.ClientSoFar
-with_receipt now bytes part receipt = ending now (acting_all now receipt.items (rising now (record part {
+with_receipt now bytes part receipt = ending (acting_all now receipt.items (rising now (record part {
   client = record part.client { link = receipt.link };
   outbox = posted part.client.link.identity.key receipt.pdus part.outbox;
   calls = part.calls ++ Receives bytes ∷ [];
@@ -82,11 +75,11 @@ rising_still now part steady = by_link (is_up part.client.link.phase) refl where
   by_link true up = rw (steady ∙ ap not up) refl
   by_link false down = rw (steady ∙ ap not down, down) refl
 
-refused_unheard : (now : ℕ) (bytes : List ℕ) (part : client.ClientSoFar) → is_outside part.client.stage ≡ not (is_up part.client.link.phase) → watched now part.client ≡ part.client → (why : Verdict) →
+refused_unheard : (now : ℕ) (bytes : List ℕ) (part : client.ClientSoFar) → is_outside part.client.stage ≡ not (is_up part.client.link.phase) → (why : Verdict) →
     Unheard part (with_receipt now bytes part (refusing why part.client.link))
 unfolding acting_all posted
-refused_unheard now bytes part steady held why = record {
-  client = ap (λ (p : client.ClientSoFar). watched now (fallen p.client)) (rising_still now kept steady) ∙ ap (watched now) (fallen_still part.client steady) ∙ held;
+refused_unheard now bytes part steady why = record {
+  client = ap (λ (p : client.ClientSoFar). fallen p.client) (rising_still now kept steady) ∙ fallen_still part.client steady;
   outbox = ap (λ (p : client.ClientSoFar). p.outbox) (rising_still now kept steady) ∙ ap (λ list. record part.outbox { datagrams = list }) (append-nil part.outbox.datagrams);
   heard = ap (λ (p : client.ClientSoFar). p.heard) (rising_still now kept steady);
 } where
@@ -97,74 +90,19 @@ refused_unheard now bytes part steady held why = record {
 pub record Refuses (now : ℕ) (bytes : List ℕ) (one : ClientState) : Type 0 where
   pub may : MayHear one
   pub settled_is : settled now one.link ≡ one.link
-  pub held : watched now one ≡ one
   pub refusal : is_refusal (receiving now bytes one.link).verdict ≡ true
   pub shut : (receiving now bytes one.link).verdict ≡ verdicts.WrongState → IsInNoConnection one
 
 pub unheard : (now : ℕ) (bytes : List ℕ) (one : ClientState) (outbox : OutboxState) → Refuses now bytes one → Unheard (begun one outbox) (hearing now bytes (begun one outbox))
 unheard now bytes one outbox is = subst (Unheard (begun one outbox))
     (sym (hearing_is now bytes (begun one outbox) ∙ ap (with_receipt now bytes (begun one outbox)) (refused_still now bytes one.link is.may.numbered is.settled_is is.refusal is.shut)))
-    (refused_unheard now bytes (begun one outbox) is.may.steady.outside is.held (receiving now bytes one.link).verdict)
+    (refused_unheard now bytes (begun one outbox) is.may.steady.outside (receiving now bytes one.link).verdict)
 
--- ---- an interlocking as the input finds it
+-- ---- an interlocking once the clock has acted
 
 clocked_settled : (now : ℕ) (one : ClientState) → settled now (clocked now one).link ≡ (clocked now one).link
 unfolding clocked fallen
-clocked_settled now one = either (λ (c : ClientState). settled now c.link ≡ c.link) (is_up (settled now one.link).phase) after (record after { stage = stage.Outside }) (settled_again now one.link) (settled_again now one.link)
-  where
-    after : ClientState
-    after = record one { link = settled now one.link }
-
--- how long a link is caught up is told once
-caught_up_twice : (now kept : ℕ) (link : LinkState) → caught_up now (caught_up now kept link) link ≡ caught_up now kept link
-caught_up_twice now kept link = cases (is_recovering (state_at now link)) where
-  cases : (b : Bool) → (if b then if b then kept else alive_until link else alive_until link) ≡ (if b then kept else alive_until link)
-  cases true = refl
-  cases false = refl
-
-watched_twice : (now : ℕ) (one : ClientState) → watched now (watched now one) ≡ watched now one
-watched_twice now one = ap (λ until. record one { caught_up_until = until }) (caught_up_twice now one.caught_up_until one.link)
-
-found_watched : (now : ℕ) (old : ClientState) → watched now (closed_behind now (clocked now old)) ≡ closed_behind now (clocked now old)
-unfolding closed_behind clocked
-found_watched now old = either (λ (c : ClientState). watched now c ≡ c) (is_behind now (clocked now old))
-    (watched now (fallen (record (clocked now old) { link = (closing_by now reason.User (clocked now old).link).link }))) (clocked now old)
-    (watched_twice now (fallen (record (clocked now old) { link = (closing_by now reason.User (clocked now old).link).link })))
-    (watched_twice now (fallen (record old { link = settled now old.link })))
-
--- a link that closed at this reading is settled at it
-settled_clock : (now : ℕ) (link : LinkState) → (settled now link).clock ≡ now
-unfolding settled
-settled_clock now link = either (λ (l : LinkState). l.clock ≡ now) (is_open link.phase && nat_le (deadline link) now) _ _ refl refl
-
-entered_clock : (now : ℕ) (link : LinkState) → (entered now link).link.clock ≡ now
-unfolding entered limited telling sending
-entered_clock now link = either (λ (s : Step). s.link.clock ≡ now) (is_open (settled now link).phase && nat_le connection_limit (settled now link).sent) (telling reason.Sequence (settled now link)) (silent (settled now link)) (settled_clock now link) (settled_clock now link)
-
-closed_clock : (now : ℕ) (link : LinkState) → (closing_by now reason.User link).link.clock ≡ now
-unfolding closing_by closing telling sending
-closed_clock now link = either (λ (s : Step). s.link.clock ≡ now) (is_open (entered now link).link.phase) (closing reason.User (entered now link).link) (silent (entered now link).link)
-    (entered_clock now link) (entered_clock now link)
-
-closed_closed : (now : ℕ) (link : LinkState) → is_open (closing_by now reason.User link).link.phase ≡ false
-unfolding closing_by closing telling sending
-closed_closed now link = picked (λ (s : Step). is_open s.link.phase ≡ false) (is_open (entered now link).link.phase) (closing reason.User (entered now link).link) (silent (entered now link).link)
-    (λ opened. refl) (λ closed. closed)
-
-closed_settled : (now : ℕ) (link : LinkState) → is_open link.phase ≡ false → link.clock ≡ now → settled now link ≡ link
-unfolding settled
-closed_settled now link closed at = rw closed (λ i. record link { clock = sym at i })
-
-found_settled : (now : ℕ) (one : ClientState) → settled now one.link ≡ one.link → settled now (closed_behind now one).link ≡ (closed_behind now one).link
-unfolding closed_behind fallen
-found_settled now one same = either (λ (c : ClientState). settled now c.link ≡ c.link) (is_behind now one) _ _
-    (either (λ (c : ClientState). settled now (watched now c).link ≡ (watched now c).link) (is_up after.phase) _ _ rests rests) same
-  where
-    after : LinkState
-    after = (closing_by now reason.User one.link).link
-
-    rests : settled now after ≡ after
-    rests = closed_settled now after (closed_closed now one.link) (closed_clock now one.link)
+clocked_settled now one = either (λ (c : ClientState). settled now c.link ≡ c.link) (is_up (settled now one.link).phase) _ _ (settled_again now one.link) (settled_again now one.link)
 
 known_signal_again : (aspect : _) (number : ℕ) (indicated : _) (one : ClientState) →
     (λ (l : KnownSignalState). known_signal_after l.aspect l.number l.indicated l.client) (known_signal_after aspect number indicated one) ≡ known_signal_after aspect number indicated one
@@ -254,49 +192,48 @@ looks_nothing sections detector heard one none same = ap (λ list. looks section
   by_stage true ready = rw ready refl
   by_stage false unready = rw unready refl
 
-module _ (now : ℕ) (table : Table) (bytes : List ℕ) (ixl : IxlState) where
+module _ (now : ℕ) (table : Table) (bytes : List ℕ) (ixl : IxlState) (outbox : OutboxState) where
   abbrev part : StepSoFar
-  part = left_in now ixl
+  part = begun_with (all_clocked now ixl) outbox
 
   -- what is said of the client of the datagram's sender
   abbrev Said : ClientState → Type 0
   Said one = MayHear one × (is_refusal (receiving now bytes one.link).verdict ≡ true) × ((receiving now bytes one.link).verdict ≡ verdicts.WrongState → IsInNoConnection one)
 
-  refuses : (one : ClientState) (old : ClientState) → one ≡ found now old → Said one → Refuses now bytes one
+  refuses : (one : ClientState) (old : ClientState) → one ≡ clocked now old → Said one → Refuses now bytes one
   refuses one old is said = record {
     may = said.0;
-    settled_is = subst (λ (c : ClientState). settled now c.link ≡ c.link) (sym is) (found_settled now (clocked now old) (clocked_settled now old));
-    held = subst (λ (c : ClientState). watched now c ≡ c) (sym is) (found_watched now old);
+    settled_is = subst (λ (c : ClientState). settled now c.link ≡ c.link) (sym is) (clocked_settled now old);
     refusal = said.1;
     shut = said.2;
   }
 
   signal_unheard : (place : ℕ) (one : ClientState) → client_at (Signal place) part.ixl ≡ Some one → Said one → Alike (known_signal_hearing now bytes place part) part
-  unfolding known_signal_hearing as_found known_signal_by
+  unfolding known_signal_hearing all_clocked known_signal_by
   signal_unheard place one is said = by_known_signal (slice_get part.ixl.known_signals place) refl where
     by_known_signal : (kept : Option KnownSignalState) → slice_get part.ixl.known_signals place ≡ kept → Alike (with_one kept (known_signal_by now bytes place) part) part
     by_known_signal None none = record { ixl = refl; outbox = refl }
     by_known_signal (Some known_signal) there =
-        let old = was_mapped (λ kept. closed_known_signal now (clocked_known_signal now kept)) place ixl.known_signals known_signal (ap (λ (i : IxlState). slice_get i.known_signals place) (sym (found_in now ixl)) ∙ there)
+        let old = was_mapped (clocked_known_signal now) place ixl.known_signals known_signal there
         in let same : known_signal.client ≡ one = some_same (rw there at is)
-        in let client_is : known_signal.client ≡ found now old.0.client = ap (λ (l : KnownSignalState). l.client) old.1 ∙ known_signal_client _ _ _ _ ∙ ap (closed_behind now) (known_signal_client old.0.aspect old.0.number old.0.indicated (clocked now old.0.client))
-        in known_signal_unheard now bytes place known_signal part there (subst (λ (l : KnownSignalState). known_signal_after l.aspect l.number l.indicated l.client ≡ l) (sym old.1) (known_signal_again (clocked_known_signal now old.0).aspect (clocked_known_signal now old.0).number (clocked_known_signal now old.0).indicated (closed_behind now (clocked_known_signal now old.0).client)))
+        in let client_is = ap (λ (l : KnownSignalState). l.client) old.1 ∙ known_signal_client old.0.aspect old.0.number old.0.indicated (clocked now old.0.client)
+        in known_signal_unheard now bytes place known_signal part there (subst (λ (l : KnownSignalState). known_signal_after l.aspect l.number l.indicated l.client ≡ l) (sym old.1) (known_signal_again old.0.aspect old.0.number old.0.indicated (clocked now old.0.client)))
         (refuses known_signal.client old.0.client client_is (subst Said (sym same) said))
 
   point_unheard : (place : ℕ) (one : ClientState) → client_at (Point place) part.ixl ≡ Some one → Said one → Alike (known_point_hearing now bytes place part) part
-  unfolding known_point_hearing as_found known_point_by
+  unfolding known_point_hearing all_clocked known_point_by
   point_unheard place one is said = by_known_point (slice_get part.ixl.known_points place) refl where
     by_known_point : (kept : Option KnownPointState) → slice_get part.ixl.known_points place ≡ kept → Alike (with_one kept (known_point_by now bytes place) part) part
     by_known_point None none = record { ixl = refl; outbox = refl }
     by_known_point (Some known_point) there =
-        let old = was_mapped (λ kept. closed_known_point now (clocked_known_point now kept)) place ixl.known_points known_point (ap (λ (i : IxlState). slice_get i.known_points place) (sym (found_in now ixl)) ∙ there)
+        let old = was_mapped (clocked_known_point now) place ixl.known_points known_point there
         in let same : known_point.client ≡ one = some_same (rw there at is)
-        in let client_is : known_point.client ≡ found now old.0.client = ap (λ (s : KnownPointState). s.client) old.1 ∙ known_point_client _ _ _ ∙ ap (closed_behind now) (known_point_client old.0.side old.0.moved (clocked now old.0.client))
-        in known_point_unheard now bytes place known_point part there (subst (λ (s : KnownPointState). known_point_after s.side s.moved s.client ≡ s) (sym old.1) (known_point_again (clocked_known_point now old.0).side (clocked_known_point now old.0).moved (closed_behind now (clocked_known_point now old.0).client)))
+        in let client_is = ap (λ (s : KnownPointState). s.client) old.1 ∙ known_point_client old.0.side old.0.moved (clocked now old.0.client)
+        in known_point_unheard now bytes place known_point part there (subst (λ (s : KnownPointState). known_point_after s.side s.moved s.client ≡ s) (sym old.1) (known_point_again old.0.side old.0.moved (clocked now old.0.client)))
         (refuses known_point.client old.0.client client_is (subst Said (sym same) said))
 
   detection_unheard : (place : ℕ) (one : ClientState) → client_at (Detector place) part.ixl ≡ Some one → Said one → Alike (detector_hearing now table bytes place part) part
-  unfolding detector_hearing as_found detector_by
+  unfolding detector_hearing all_clocked detector_by
   detection_unheard place one is said = by_sections (slice_get table.detectors place) where
     heard_by : List ℕ → KnownDetectorState → StepSoFar → StepSoFar
     heard_by sections detector p =
@@ -306,14 +243,14 @@ module _ (now : ℕ) (table : Table) (bytes : List ℕ) (ixl : IxlState) where
     by_detector : (sections : List ℕ) (kept : Option KnownDetectorState) → slice_get part.ixl.detectors place ≡ kept → Alike (with_one kept (heard_by sections) part) part
     by_detector sections None none = record { ixl = refl; outbox = refl }
     by_detector sections (Some detector) there =
-        let old = was_mapped (λ kept. closed_detector now (clocked_detector now kept)) place ixl.detectors detector (ap (λ (i : IxlState). slice_get i.detectors place) (sym (found_in now ixl)) ∙ there)
+        let old = was_mapped (clocked_detector now) place ixl.detectors detector there
         in let same : detector.client ≡ one = some_same (rw there at is)
-        in let client_is : detector.client ≡ found now old.0.client = ap (λ (d : KnownDetectorState). d.client) old.1 ∙ detector_client _ _ ∙ ap (closed_behind now) (detector_client old.0.occupied (clocked now old.0.client))
+        in let client_is = ap (λ (d : KnownDetectorState). d.client) old.1 ∙ detector_client old.0.occupied (clocked now old.0.client)
         in let does_refuse = refuses detector.client old.0.client client_is (subst Said (sym same) said)
         in let nothing = unheard now bytes detector.client part.outbox does_refuse
         in subst (λ list. Alike (along (looking table) list (detector_by now bytes place detector part)) part)
         (sym (looks_nothing sections detector _ _ nothing.heard nothing.client))
-        (detector_unheard now bytes place detector part there (subst (λ (d : KnownDetectorState). detector_after d.occupied d.client ≡ d) (sym old.1) (detector_again (clocked_detector now old.0).occupied (closed_behind now (clocked_detector now old.0).client))) does_refuse)
+        (detector_unheard now bytes place detector part there (subst (λ (d : KnownDetectorState). detector_after d.occupied d.client ≡ d) (sym old.1) (detector_again old.0.occupied (clocked now old.0.client))) does_refuse)
 
     by_sections : (listed : Option (List ℕ)) → Alike (with_one listed (λ sections. with_one (slice_get part.ixl.detectors place) (heard_by sections)) part) part
     by_sections None = record { ixl = refl; outbox = refl }
@@ -338,32 +275,34 @@ received Accepted = verdicts.Taken
 received (Refused cause) = verdicts.Taken
 
 pub refused_datagram_is_without : (now : ℕ) (bytes : List ℕ) (old new : InterlockingState) (why : Verdict) (one : ClientState) → HasStepped now (Datagram bytes) old new (Received why) →
-    client_of (addressed (reading (key_of old.state.sited.site) bytes) (as_found now old.state.ixl)) (as_found now old.state.ixl) ≡ Some one → MayHear one →
+    client_of (addressed (reading (key_of old.state.sited.site) bytes) (all_clocked now old.state.ixl)) (all_clocked now old.state.ixl) ≡ Some one → MayHear one →
     is_refusal why ≡ true → (why ≡ verdicts.WrongState → IsInNoConnection one) → IsWithoutInput now old new
 unfolding stepped given ticked reply
-refused_datagram_is_without now bytes old new why one step is may refusal shut =
-    by_node (addressed read left.ixl) (ap (λ (i : IxlState). client_of (addressed read i) i) (found_is now old) ∙ is) refl where
-      table : Table
-      table = old.state.sited.table
+refused_datagram_is_without now bytes old new why one step is may refusal shut = by_node (addressed read clocked) is refl where
+  table : Table
+  table = old.state.sited.table
 
-      left : StepSoFar
-      left = clock_left now old
+  clocked : IxlState
+  clocked = all_clocked now old.state.ixl
 
-      read : Result Pdu PduFault
-      read = reading (key_of old.state.sited.site) bytes
+  read : Result Pdu PduFault
+  read = reading (key_of old.state.sited.site) bytes
 
-      why_is : why ≡ (receiving now bytes one.link).verdict
-      why_is = ap received step.answered ∙ verdict_is now bytes read (as_found now old.state.ixl) one is
+  begun : StepSoFar
+  begun = begun_with clocked empty_outbox
 
-      behind : Option Node → StepSoFar
-      behind node = ruled now table (over (noting now table) (count table) (over (watching table) (count table) (with_one node (node_hearing now table bytes) left)))
+  why_is : why ≡ (receiving now bytes one.link).verdict
+  why_is = ap received step.answered ∙ verdict_is now bytes read clocked one is
 
-      by_node : (node : Option Node) → client_of node left.ixl ≡ Some one → addressed read left.ixl ≡ node → IsWithoutInput now old new
-      by_node None none at = absurd (none_is none)
-      by_node (Some node) told at =
-          let alike : Alike (behind (Some node)) (step_without_input now table old.state.ixl) = seen_and_ruled now table (node_hearing now table bytes node left) left
-          (node_unheard now table bytes old.state.ixl node one told (may, ap is_refusal (sym why_is) ∙ refusal, λ wrong. shut (why_is ∙ wrong)))
-          in record {
-            ixl = step.ixl ∙ ap (λ n. (behind n).ixl) at ∙ alike.ixl;
-            outbox = step.outbox ∙ ap (λ n. (behind n).outbox) at ∙ alike.outbox;
-          }
+  behind : Option Node → StepSoFar
+  behind node = ruled now table (over (watching table) (count table) (with_one node (node_hearing now table bytes) begun))
+
+  by_node : (node : Option Node) → client_of node clocked ≡ Some one → addressed read clocked ≡ node → IsWithoutInput now old new
+  by_node None none at = absurd (none_is none)
+  by_node (Some node) told at =
+      let alike : Alike (behind (Some node)) (step_without_input now table old.state.ixl) = seen_and_ruled now table (node_hearing now table bytes node begun) begun
+      (node_unheard now table bytes old.state.ixl empty_outbox node one told (may, ap is_refusal (sym why_is) ∙ refusal, λ wrong. shut (why_is ∙ wrong)))
+      in record {
+        ixl = step.ixl ∙ ap (λ n. (behind n).ixl) at ∙ alike.ixl;
+        outbox = step.outbox ∙ ap (λ n. (behind n).outbox) at ∙ alike.outbox;
+      }

@@ -3,7 +3,7 @@ use Rattle.std.proofs.Common.{inl, inr, ◌≡◌, ℕ, Bool, true, false, refl,
 use Rattle.std.specs.Prelude.{Some, slice_get}
 use Rattle.std.proofs.lemmas.Bool.{true≢false}
 use Rattle.ixl_state.specs.ixl_spec.State.{IxlState, RouteState}
-use Rattle.ixl_state.specs.ixl_spec.Step.{Input, Reply, as_found}
+use Rattle.ixl_state.specs.ixl_spec.Step.{Input, Reply, all_clocked}
 use Rattle.ixl_state.specs.ixl_spec.View.{is_holding, is_set}
 use Rattle.ixl_state.specs.ixl_spec.declared.phase.Phase.{Phase}
 use Rattle.ixl.specs.Interlocking.{HasStepped, InterlockingState}
@@ -16,8 +16,8 @@ onward_unset old new true is onward unset = absurd (true≢false (sym (set_back 
 onward_unset old new false is onward unset = is
 
 -- the clock's acting on the links leaves the hold as it is
-clocked_holds : (now : ℕ) (ixl : IxlState) → is_holding now (as_found now ixl) ≡ is_holding now ixl
-unfolding as_found
+clocked_holds : (now : ℕ) (ixl : IxlState) → is_holding now (all_clocked now ixl) ≡ is_holding now ixl
+unfolding all_clocked
 clocked_holds now ixl = refl
 
 pub unset_stays : (now : ℕ) (input : Input) (old new : InterlockingState) (answer : Reply) (number : ℕ) (before after : RouteState) → Accepts → HasStepped now input old new answer →

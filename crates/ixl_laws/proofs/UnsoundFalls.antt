@@ -12,7 +12,7 @@ use Rattle.ixl_state.specs.ixl_spec.declared.phase.Phase.{Phase}
 use Rattle.ixl_state.specs.ixl_spec.declared.phase.Phase.TheVariants as phase
 use Rattle.ixl_laws.specs.Onward.{order_of}
 use Rattle.ixl_laws.specs.UnsoundAspect.{IsUnsound}
-use Rattle.ixl_laws.specs.WholeStep.{Beat, DoesItsTurn, EndAuthority, Follow, FreeCancelled, FreeSection, MovePoint, Note, Passed, Proceed, Turn, TurnTaken, Watch, Withdraw, approach_seen, beaten, for_each, sections_noted, turns_of_rules}
+use Rattle.ixl_laws.specs.WholeStep.{Beat, DoesItsTurn, EndAuthority, Follow, FreeCancelled, FreeSection, MovePoint, Passed, Proceed, Turn, TurnTaken, Watch, Withdraw, approach_seen, beaten, for_each, turns_of_rules}
 use Rattle.ixl_laws.proofs.NothingLearnt.{LearnsNothing, learns_kept, nothing_at_first}
 use Rattle.ixl_laws.proofs.Cancelled.{IsOff, Off, off_kept}
 use Rattle.ixl_laws.proofs.PickedByTest.{changed_here, either, none_is, some_same}
@@ -54,9 +54,6 @@ module _ (now : ℕ) (table : Table) (number : ℕ) (row : Row) (there : slice_g
   stays_down (Watch place) before after (other, route, is, does) same down lost =
       where_stays Down before (with_route place (approach_seen table before.ixl other) before) after does down
       (λ due. route_down number place (approach_seen table before.ixl other) before (λ one at here was given. was given) down) lost
-  stays_down (Note place) before after (other, route, is, does) same down lost =
-      where_stays Down before (with_route place (sections_noted now table before.ixl other) before) after does down
-      (λ due. route_down number place (sections_noted now table before.ixl other) before (λ one at here was given. was given) down) lost
   stays_down (Withdraw place) before after (other, route, is, does) same down lost =
       where_stays Down before (stopped now other (with_route place (come_to phase.Withdrawn) before)) after does down
       (λ due. same_down number (with_route place (come_to phase.Withdrawn) before) (stopped now other (with_route place (come_to phase.Withdrawn) before)) (stopped_keeps now other (with_route place (come_to phase.Withdrawn) before))
@@ -154,8 +151,7 @@ pub rule_comes : (turns : List TurnTaken) (rows : List Row) (more : List Turn) (
 rule_comes turns rows more number row there are =
     let here : slice_get (for_each (λ n some. Withdraw n ∷ []) 0 rows) number ≡ Some (Withdraw (0 + number)) = one_each Withdraw 0 number rows row there
     in let same : 0 + number ≡ number = omega arith
-    in let later = in_second (for_each (λ n some. Note n ∷ []) 0 rows) _ number (Withdraw number) (in_first (for_each (λ n some. Withdraw n ∷ []) 0 rows) _ number (Withdraw number) (here ∙ ap (λ n. Some (Withdraw n)) same))
-    in let found = in_second (for_each (λ n some. Watch n ∷ []) 0 rows) _ later.0 (Withdraw number) later.1
+    in let found = in_second (for_each (λ n some. Watch n ∷ []) 0 rows) _ number (Withdraw number) (in_first (for_each (λ n some. Withdraw n ∷ []) 0 rows) _ number (Withdraw number) (here ∙ ap (λ n. Some (Withdraw n)) same))
     in let whole = in_first (turns_of_rules rows) more found.0 (Withdraw number) found.1
     in let one = mapped_from (λ (taken : TurnTaken). taken.turn) turns found.0 (Withdraw number) (ap (λ (list : List Turn). slice_get list found.0) are ∙ whole)
     in (found.0, one.0, one.1, one.2)

@@ -1,5 +1,5 @@
 -- Through a step controllers neither come nor go.
-use Rattle.std.proofs.Common.{◌≡◌, ℕ, List, length, ◌∙◌}
+use Rattle.std.proofs.Common.{◌≡◌, ℕ, List, length, sym, ◌∙◌, subst}
 use Rattle.std.specs.Prelude.{Option, Some, None, slice_get}
 use Rattle.std.proofs.lemmas.List.{length-map}
 use Rattle.ixl_state.specs.rasta_pdu.PduRead.{reading}
@@ -7,15 +7,15 @@ use Rattle.ixl_state.specs.rasta_pdu.declared.key.Key.{Key}
 use Rattle.ixl_state.specs.ixl_client.ClientSoFar.{begun}
 use Rattle.ixl_state.specs.ixl_client.Step.{hearing}
 use Rattle.ixl_state.specs.ixl_spec.Commands.{commanded_by, moved_at_once, obeyed, refusal}
-use Rattle.ixl_state.specs.ixl_spec.StepSoFar.{Detector, Node, Point, Signal, StepSoFar, along, begun_with, detector_after, empty_outbox, giving_aspect, giving_move, noted, over, with_detector}
+use Rattle.ixl_state.specs.ixl_spec.StepSoFar.{Detector, Node, Point, Signal, StepSoFar, along, detector_after, giving_aspect, giving_move, noted, over, with_detector}
 use Rattle.ixl_state.specs.ixl_spec.Rules.{count, ruled}
 use Rattle.ixl_state.specs.ixl_spec.State.{IxlState, KnownDetectorState}
-use Rattle.ixl_state.specs.ixl_spec.Step.{Commands, Datagram, Input, Tick, addressed, all_clocked, all_closing, detector_closing, detector_hearing, given, known_point_closing, known_point_hearing, known_signal_closing, known_signal_hearing, looking, looks, node_hearing, noting, occupied_heard, watching}
+use Rattle.ixl_state.specs.ixl_spec.Step.{Commands, Datagram, Input, Tick, addressed, all_clocked, detector_hearing, given, known_point_hearing, known_signal_hearing, looking, looks, node_hearing, occupied_heard, watching}
 use Rattle.ixl_state.specs.ixl_spec.Table.{Table}
 use Rattle.ixl_state.specs.ixl_spec.declared.command.Command.{Command}
 use Rattle.ixl_state.specs.ixl_spec.declared.command.Command.TheVariants as commands
 use Rattle.ixl_state.specs.ixl_spec.declared.command.Refusal.{Refusal}
-use Rattle.ixl_laws.proofs.Ruled.{IsKeptByChanges, IsKeptByRoutes, along_holds, closing_holds, looking_holds, ruled_holds, seen_holds, with_one_holds}
+use Rattle.ixl_laws.proofs.Ruled.{IsKeptByChanges, IsKeptByRoutes, along_holds, looking_holds, ruled_holds, seen_holds, with_one_holds}
 use Rattle.ixl_laws.proofs.WholeFits.{changed_length}
 
 -- what a detector's controller does with a datagram
@@ -40,26 +40,6 @@ module _ (first : IxlState) where
 
   routes_on : IsKeptByRoutes On
   routes_on number change part on = record { known_signals = on.known_signals; known_points = on.known_points; detectors = on.detectors }
-
-  -- ---- links that aren't caught up
-
-  signal_closed : (now place : ℕ) (part : StepSoFar) → On part → On (known_signal_closing now place part)
-  unfolding known_signal_closing
-  signal_closed now place part on = with_one_holds On (slice_get part.ixl.known_signals place) _ part (λ known_signal there.
-      record { known_signals = changed_length _ place part.ixl.known_signals ∙ on.known_signals; known_points = on.known_points; detectors = on.detectors }) on
-
-  point_closed : (now place : ℕ) (part : StepSoFar) → On part → On (known_point_closing now place part)
-  unfolding known_point_closing
-  point_closed now place part on = with_one_holds On (slice_get part.ixl.known_points place) _ part (λ known_point there.
-      record { known_signals = on.known_signals; known_points = changed_length _ place part.ixl.known_points ∙ on.known_points; detectors = on.detectors }) on
-
-  detector_closed : (now place : ℕ) (part : StepSoFar) → On part → On (detector_closing now place part)
-  unfolding detector_closing
-  detector_closed now place part on = with_one_holds On (slice_get part.ixl.detectors place) _ part (λ detector there.
-      record { known_signals = on.known_signals; known_points = on.known_points; detectors = changed_length _ place part.ixl.detectors ∙ on.detectors }) on
-
-  pub closed_counts : (now : ℕ) → On (all_closing now (begun_with (all_clocked now first) empty_outbox))
-  closed_counts now = closing_holds On now (signal_closed now) (point_closed now) (detector_closed now) (begun_with (all_clocked now first) empty_outbox) (clocked_counts now first)
 
   -- ---- the input
 
@@ -142,6 +122,7 @@ module _ (first : IxlState) where
   changes_on now = record { route = routes_on; aspect = aspect_on now; move = λ point side part available on. move_on now point side part on }
 
   -- so before the ticks
-  pub counts_ruled : (now : ℕ) (table : Table) (key : Key) (input : Input) (part : StepSoFar) → SameCounts first part.ixl →
-      SameCounts first (ruled now table (over (noting now table) (count table) (over (watching table) (count table) (given now table key input part)))).ixl
-  counts_ruled now table key input part begins = ruled_holds On now (changes_on now) table _ (seen_holds On routes_on table now _ (given_on now table key input part begins))
+  pub counts_ruled : (now : ℕ) (table : Table) (key : Key) (input : Input) (part : StepSoFar) → part.ixl ≡ all_clocked now first →
+      SameCounts first (ruled now table (over (watching table) (count table) (given now table key input part))).ixl
+  counts_ruled now table key input part begins = ruled_holds On now (changes_on now) table _ (seen_holds On routes_on table _
+      (given_on now table key input part (subst (SameCounts first) (sym begins) (clocked_counts now first))))

@@ -6,9 +6,9 @@ use Rattle.ixl_state.specs.ixl_spec.Due.{IsRouteOf}
 use Rattle.ixl_state.specs.ixl_spec.StepSoFar.{StepSoFar, at_route, giving_aspect, giving_move, with_one, with_route}
 use Rattle.ixl_state.specs.ixl_spec.Rules.{authorised, come_to, ending_authority, freeing_by_cancel, freeing_next, frees_cancelled, frees_next, is_move_due, is_proceed_due, is_proceeding, is_stop_due, is_withdrawn, moving_one, one_freed, proceeding, stopped, withdrawing}
 use Rattle.ixl_state.specs.ixl_spec.State.{IxlState, RouteState, changed}
-use Rattle.ixl_state.specs.ixl_spec.Step.{noting, watching}
+use Rattle.ixl_state.specs.ixl_spec.Step.{watching}
 use Rattle.ixl_state.specs.ixl_spec.Table.{Need, Row, Table}
-use Rattle.ixl_state.specs.ixl_spec.View.{is_at_known_stop, is_signal_ready, was_authorised}
+use Rattle.ixl_state.specs.ixl_spec.View.{is_at_known_stop, is_signal_ready}
 use Rattle.ixl_state.specs.ixl_spec.declared.phase.Phase.{Phase}
 use Rattle.ixl_state.specs.ixl_spec.declared.phase.Phase.TheVariants as phase
 use Rattle.ixl_laws.specs.WholeStep.{Fits}
@@ -115,10 +115,6 @@ module _ (now : ℕ) (table : Table) (number : ℕ) (part : StepSoFar) (row : Ro
   pub watching_fits : Fits table (watching table number part).ixl
   unfolding watching
   watching_fits = at_this _ (either (λ (p : StepSoFar). Fits table p.ixl) (is_proceeding route.phase || is_withdrawn route.phase) _ _ (kept _ (λ other. refl)) fits)
-
-  pub noting_fits : Fits table (noting now table number part).ixl
-  unfolding noting
-  noting_fits = at_this _ (either (λ (p : StepSoFar). Fits table p.ixl) (table.is_strict && was_authorised route.phase) _ _ (kept _ (λ other. refl)) fits)
 
   pub withdrawing_fits : Fits table (withdrawing now table number part).ixl
   unfolding withdrawing

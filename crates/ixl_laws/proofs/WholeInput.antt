@@ -7,10 +7,10 @@ use Rattle.ixl_state.specs.release.Passage.{PassageState, after_look}
 use Rattle.ixl_state.specs.ixl_client.ClientSoFar.{begun}
 use Rattle.ixl_state.specs.ixl_client.Step.{hearing}
 use Rattle.ixl_state.specs.ixl_spec.Commands.{commanded_by, moved_at_once, obeyed, refusal}
-use Rattle.ixl_state.specs.ixl_spec.StepSoFar.{Detector, Node, Point, Signal, StepSoFar, begun_with, detector_after, empty_outbox, noted, with_detector}
+use Rattle.ixl_state.specs.ixl_spec.StepSoFar.{Detector, Node, Point, Signal, StepSoFar, detector_after, noted, with_detector}
 use Rattle.ixl_state.specs.ixl_spec.Rules.{count}
 use Rattle.ixl_state.specs.ixl_spec.State.{IxlState, KnownDetectorState, RouteState}
-use Rattle.ixl_state.specs.ixl_spec.Step.{Commands, Datagram, Input, Tick, addressed, all_clocked, all_closing, detector_closing, detector_hearing, detector_ticking, given, known_point_closing, known_point_hearing, known_point_ticking, known_signal_closing, known_signal_hearing, known_signal_ticking, looking, looking_by, looks, node_hearing, occupied_heard, route_looks}
+use Rattle.ixl_state.specs.ixl_spec.Step.{Commands, Datagram, Input, Tick, addressed, all_clocked, detector_hearing, detector_ticking, given, known_point_hearing, known_point_ticking, known_signal_hearing, known_signal_ticking, looking, looking_by, looks, node_hearing, occupied_heard, route_looks}
 use Rattle.ixl_state.specs.ixl_spec.Table.{Row, Table}
 use Rattle.ixl_state.specs.ixl_spec.View.{place_in, was_authorised}
 use Rattle.ixl_state.specs.ixl_spec.declared.command.Command.{Command}
@@ -18,7 +18,7 @@ use Rattle.ixl_state.specs.ixl_spec.declared.command.Command.TheVariants as comm
 use Rattle.ixl_state.specs.ixl_spec.declared.command.Refusal.{Refusal}
 use Rattle.ixl_laws.specs.WholeStep.{Fits, beaten}
 use Rattle.ixl_laws.proofs.PickedByTest.{either}
-use Rattle.ixl_laws.proofs.Ruled.{along_holds, at_route_holds, closing_holds, over_holds, with_one_holds}
+use Rattle.ixl_laws.proofs.Ruled.{along_holds, at_route_holds, over_holds, with_one_holds}
 use Rattle.ixl_laws.proofs.WholeCounts.{heard_by}
 use Rattle.ixl_laws.proofs.WholeFits.{fits_same, kept_fits, move_keeps, with_one_keeps}
 
@@ -95,25 +95,9 @@ module _ (table : Table) where
       let cause = refusal now table command part.ixl
       in moved_fits now cause command (record part { ixl = commanded_by now cause command part.ixl }) (commanded_fits now cause command part.ixl fits)
 
-  signal_closed : (now place : ℕ) (part : StepSoFar) → On part → On (known_signal_closing now place part)
-  unfolding known_signal_closing
-  signal_closed now place part fits = fits_same table part.ixl _ (with_one_keeps (slice_get part.ixl.known_signals place) _ part (λ known_signal. refl)) fits
-
-  point_closed : (now place : ℕ) (part : StepSoFar) → On part → On (known_point_closing now place part)
-  unfolding known_point_closing
-  point_closed now place part fits = fits_same table part.ixl _ (with_one_keeps (slice_get part.ixl.known_points place) _ part (λ known_point. refl)) fits
-
-  detector_closed : (now place : ℕ) (part : StepSoFar) → On part → On (detector_closing now place part)
-  unfolding detector_closing
-  detector_closed now place part fits = fits_same table part.ixl _ (with_one_keeps (slice_get part.ixl.detectors place) _ part (λ detector. refl)) fits
-
-  clocked_fits : (now : ℕ) (ixl : IxlState) → Fits table ixl → Fits table (all_clocked now ixl)
+  pub clocked_fits : (now : ℕ) (ixl : IxlState) → Fits table ixl → Fits table (all_clocked now ixl)
   unfolding all_clocked
   clocked_fits now ixl fits = fits_same table ixl _ refl fits
-
-  -- once links that aren't caught up are closed
-  pub closed_fits : (now : ℕ) (ixl : IxlState) → Fits table ixl → Fits table (all_closing now (begun_with (all_clocked now ixl) empty_outbox)).ixl
-  closed_fits now ixl fits = closing_holds On now (signal_closed now) (point_closed now) (detector_closed now) (begun_with (all_clocked now ixl) empty_outbox) (clocked_fits now ixl fits)
 
   pub beaten_fits : (now : ℕ) (node : Node) (part : StepSoFar) → On part → On (beaten now node part)
   unfolding known_signal_ticking known_point_ticking detector_ticking

@@ -1,20 +1,20 @@
 -- The six rules are their turns.
 use Rattle.std.proofs.Common.{◌≡◌, ℕ, Bool, true, false, if◌then◌else◌, List, [], ◌∷◌, ◌++◌, length, refl, sym, subst}
-use Rattle.std.specs.Prelude.{◌&&◌, ◌||◌, map, Some, slice_get}
+use Rattle.std.specs.Prelude.{◌||◌, map, Some, slice_get}
 use Rattle.std.proofs.lemmas.Bool.{false≢true}
 use Rattle.ixl_state.specs.ixl_spec.Due.{DoesWhere, FreeByCancel, IsRouteOf, MoveDue, ProceedDue, StopDue}
 use Rattle.ixl_state.specs.ixl_spec.EndDue.{EndDue, SomeFreeable}
 use Rattle.ixl_state.specs.ixl_spec.StepSoFar.{StepSoFar, giving_aspect, giving_move, over, with_route}
 use Rattle.ixl_state.specs.ixl_spec.Rules.{authorised, come_to, count, ending_authority, freed, freeing_by_cancel, freeing_by_passage, freeing_next, is_proceeding, is_withdrawn, moving, moving_one, one_freed, proceeding, ruled, stopped, withdrawing}
 use Rattle.ixl_state.specs.ixl_spec.State.{RouteState}
-use Rattle.ixl_state.specs.ixl_spec.Step.{noting, watching}
+use Rattle.ixl_state.specs.ixl_spec.Step.{watching}
 use Rattle.ixl_state.specs.ixl_spec.Table.{Need, Row, Table}
-use Rattle.ixl_state.specs.ixl_spec.View.{has_authority, was_authorised}
+use Rattle.ixl_state.specs.ixl_spec.View.{has_authority}
 use Rattle.ixl_state.specs.ixl_spec.declared.phase.Phase.{Phase}
 use Rattle.ixl_state.specs.ixl_spec.declared.phase.Phase.TheVariants as phase
-use Rattle.ixl_laws.specs.WholeStep.{DoesItsTurn, EndAuthority, Fits, FreeCancelled, FreeSection, MovePoint, Note, Passed, Proceed, Turn, Watch, Withdraw, approach_seen, sections_noted, turns_of_rules}
+use Rattle.ixl_laws.specs.WholeStep.{DoesItsTurn, EndAuthority, Fits, FreeCancelled, FreeSection, MovePoint, Passed, Proceed, Turn, Watch, Withdraw, approach_seen, turns_of_rules}
 use Rattle.ixl_laws.proofs.Turns.{Taken, Walks, along_walks, over_walks, repeated_walks, walks_joined, walks_once}
-use Rattle.ixl_laws.proofs.WholeFits.{at_route_is, cancel_fits, ending_fits, moving_fits, next_fits, noting_fits, proceeding_fits, route_of, watching_fits, withdrawing_fits}
+use Rattle.ixl_laws.proofs.WholeFits.{at_route_is, cancel_fits, ending_fits, moving_fits, next_fits, proceeding_fits, route_of, watching_fits, withdrawing_fits}
 
 -- what is so of each rule at one route
 pub record RuleLaws (now : ℕ) (table : Table) : Type 0 where
@@ -37,11 +37,6 @@ where_test : (b : Bool) (done part : StepSoFar) → DoesWhere (b ≡ true) part 
 where_test true done part = record { due = λ is. refl; otherwise = λ no. absurd (no refl) }
 where_test false done part = record { due = λ is. absurd (false≢true is); otherwise = λ no. refl }
 
-where_both : (a b : Bool) (done part : StepSoFar) → DoesWhere ((a ≡ true) × (b ≡ true)) part done (if a && b then done else part)
-where_both true true done part = record { due = λ is. refl; otherwise = λ no. absurd (no (refl, refl)) }
-where_both true false done part = record { due = λ is. absurd (false≢true is.1); otherwise = λ no. refl }
-where_both false b done part = record { due = λ is. absurd (false≢true is.0); otherwise = λ no. refl }
-
 authority_is : (p : Phase) → (is_proceeding p || is_withdrawn p) ≡ has_authority p
 authority_is phase.Free = refl
 authority_is phase.Waiting = refl
@@ -57,13 +52,6 @@ watches table number part row route is =
     (subst (λ b. DoesWhere (has_authority route.phase ≡ true) part (with_route number (approach_seen table part.ixl row) part) (if b then with_route number (approach_seen table part.ixl row) part else part)) (sym (authority_is route.phase))
     (where_test (has_authority route.phase) (with_route number (approach_seen table part.ixl row) part) part))
 
-notes : (now : ℕ) (table : Table) (number : ℕ) (part : StepSoFar) (row : Row) (route : RouteState) → IsRouteOf table part.ixl number row route →
-    DoesWhere ((table.is_strict ≡ true) × (was_authorised route.phase ≡ true)) part (with_route number (sections_noted now table part.ixl row) part) (noting now table number part)
-unfolding noting
-notes now table number part row route is =
-    subst (DoesWhere ((table.is_strict ≡ true) × (was_authorised route.phase ≡ true)) part (with_route number (sections_noted now table part.ixl row) part)) (sym (at_route_is table number _ part row route is))
-    (where_both table.is_strict (was_authorised route.phase) (with_route number (sections_noted now table part.ixl row) part) part)
-
 module _ (now : ℕ) (table : Table) (laws : RuleLaws now table) (number : ℕ) where
   module _ (row : Row) (there : slice_get table.rows number ≡ Some row) where
     -- the route, as it is kept
@@ -74,11 +62,6 @@ module _ (now : ℕ) (table : Table) (laws : RuleLaws now table) (number : ℕ) 
     watch_walks part = walks_once now table (Watch number) part (watching table number part) (λ fits. does fits (kept part fits)) where
       does : Fits table part.ixl → (route : RouteState) × IsRouteOf table part.ixl number row route → DoesItsTurn now table (Watch number) part (watching table number part) × Fits table (watching table number part).ixl
       does fits (route, is) = ((row, route, is, watches table number part row route is), watching_fits now table number part row route is fits)
-
-    pub note_walks : (part : StepSoFar) → Walks now table (Note number ∷ []) part (noting now table number part)
-    note_walks part = walks_once now table (Note number) part (noting now table number part) (λ fits. does fits (kept part fits)) where
-      does : Fits table part.ixl → (route : RouteState) × IsRouteOf table part.ixl number row route → DoesItsTurn now table (Note number) part (noting now table number part) × Fits table (noting now table number part).ixl
-      does fits (route, is) = ((row, route, is, notes now table number part row route is), noting_fits now table number part row route is fits)
 
     pub withdraw_walks : (part : StepSoFar) → Walks now table (Withdraw number ∷ []) part (withdrawing now table number part)
     withdraw_walks part = walks_once now table (Withdraw number) part (withdrawing now table number part) (λ fits. does fits (kept part fits)) where
@@ -143,11 +126,8 @@ module _ (now : ℕ) (table : Table) (laws : RuleLaws now table) (part : StepSoF
   watched : StepSoFar
   watched = over (watching table) (count table) part
 
-  noted : StepSoFar
-  noted = over (noting now table) (count table) watched
-
   withdraws : StepSoFar
-  withdraws = over (withdrawing now table) (count table) noted
+  withdraws = over (withdrawing now table) (count table) watched
 
   ends : StepSoFar
   ends = over (ending_authority now table) (count table) withdraws
@@ -164,13 +144,12 @@ module _ (now : ℕ) (table : Table) (laws : RuleLaws now table) (part : StepSoF
   proceeds : StepSoFar
   proceeds = over (proceeding now table) (count table) moves
 
-  pub rules_walk : Walks now table (turns_of_rules table.rows) part (ruled now table (over (noting now table) (count table) (over (watching table) (count table) part)))
-  unfolding watched noted withdraws ends passes cancels moves proceeds
+  pub rules_walk : Walks now table (turns_of_rules table.rows) part (ruled now table (over (watching table) (count table) part))
+  unfolding watched withdraws ends passes cancels moves proceeds
   rules_walk = walks_joined now table _ _ part watched proceeds (over_walks now table (watching table) _ table.rows (λ number row some there. watch_walks now table laws number row there some) part)
-      (walks_joined now table _ _ watched noted proceeds (over_walks now table (noting now table) _ table.rows (λ number row some there. note_walks now table laws number row there some) watched)
-      (walks_joined now table _ _ noted withdraws proceeds (over_walks now table (withdrawing now table) _ table.rows (λ number row some there. withdraw_walks now table laws number row there some) noted)
+      (walks_joined now table _ _ watched withdraws proceeds (over_walks now table (withdrawing now table) _ table.rows (λ number row some there. withdraw_walks now table laws number row there some) watched)
       (walks_joined now table _ _ withdraws ends proceeds (over_walks now table (ending_authority now table) _ table.rows (λ number row some there. end_walks now table laws number row there some) withdraws)
       (walks_joined now table _ _ ends passes proceeds (over_walks now table (freeing_by_passage table) _ table.rows (λ number row some there. sections_walk now table laws number row there some) ends)
       (walks_joined now table _ _ passes cancels proceeds (over_walks now table (freeing_by_cancel now table) _ table.rows (λ number row some there. cancel_walks now table laws number row there some) passes)
       (walks_joined now table _ _ cancels moves proceeds (over_walks now table (moving now table) _ table.rows (λ number row some there. moves_walk now table laws number row there some) cancels)
-      (over_walks now table (proceeding now table) _ table.rows (λ number row some there. proceed_walks now table laws number row there some) moves)))))))
+      (over_walks now table (proceeding now table) _ table.rows (λ number row some there. proceed_walks now table laws number row there some) moves))))))

@@ -4,16 +4,15 @@ use Rattle.std.proofs.lemmas.List.{length-map}
 use Rattle.ixl_state.specs.First.{Beginning, key_of, new_ixl, new_route_of}
 use Rattle.ixl_state.specs.layout.Entries.{Site}
 use Rattle.ixl_state.specs.ixl_spec.State.{RouteState}
-use Rattle.ixl_state.specs.ixl_spec.Step.{Input, Reply, stepped}
+use Rattle.ixl_state.specs.ixl_spec.Step.{Input, Reply, all_clocked, stepped}
+use Rattle.ixl_state.specs.ixl_spec.StepSoFar.{begun_with, empty_outbox}
 use Rattle.ixl_state.specs.ixl_spec.Table.{SitedTable, Table}
 use Rattle.ixl.specs.Interlocking.{HasStepped, InterlockingState, step_of}
-use Rattle.ixl_laws.specs.WholeStep.{Fits, WholeStep, clock_left, heard, turns_of_input, turns_of_rules}
+use Rattle.ixl_laws.specs.WholeStep.{Fits, WholeStep, heard, turns_of_input, turns_of_rules}
 use Rattle.ixl_laws.proofs.Clients.{mapped}
 use Rattle.ixl_laws.proofs.PickedByTest.{some_same}
 use Rattle.ixl_laws.proofs.Turns.{Taken}
-use Rattle.ixl_laws.proofs.WholeCounts.{closed_counts}
 use Rattle.ixl_laws.proofs.WholeFits.{passage_of}
-use Rattle.ixl_laws.proofs.WholeInput.{closed_fits}
 use Rattle.ixl_laws.proofs.WholeRules.{RuleLaws}
 use Rattle.ixl_laws.proofs.WholeTicks.{step_walks}
 
@@ -30,7 +29,7 @@ module _ (now : ℕ) (laws : (table : Table) → RuleLaws now table) (input : In
       (heard now input old) (step_of now input old.state)
   unfolding stepped
   taken = step_walks now old.state.sited.table (laws old.state.sited.table) (key_of old.state.sited.site) input old.state.ixl
-      (clock_left now old) (closed_counts old.state.ixl now) (closed_fits old.state.sited.table now old.state.ixl fits)
+      (begun_with (all_clocked now old.state.ixl) empty_outbox) refl fits
 
   pub is_whole : WholeStep now input old new
   is_whole = record {

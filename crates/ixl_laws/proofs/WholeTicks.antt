@@ -1,15 +1,15 @@
 -- The ticks are their turns, and so are the parts of a step after its input.
-use Rattle.std.proofs.Common.{ℕ, [], ◌∷◌, ◌++◌, length, refl, sym, subst}
+use Rattle.std.proofs.Common.{◌≡◌, ℕ, [], ◌∷◌, ◌++◌, length, refl, sym, subst}
 use Rattle.ixl_state.specs.rasta_pdu.declared.key.Key.{Key}
 use Rattle.ixl_state.specs.ixl_spec.StepSoFar.{Detector, Node, Point, Signal, StepSoFar, over}
 use Rattle.ixl_state.specs.ixl_spec.Rules.{count, ruled}
 use Rattle.ixl_state.specs.ixl_spec.State.{IxlState}
-use Rattle.ixl_state.specs.ixl_spec.Step.{Commands, Datagram, Input, Tick, detector_ticking, given, known_point_ticking, known_signal_ticking, noting, ticked, watching}
+use Rattle.ixl_state.specs.ixl_spec.Step.{Commands, Datagram, Input, Tick, all_clocked, detector_ticking, given, known_point_ticking, known_signal_ticking, ticked, watching}
 use Rattle.ixl_state.specs.ixl_spec.Table.{Table}
 use Rattle.ixl_laws.specs.WholeStep.{Beat, Fits, beaten, for_each, turns_of_input, turns_of_rules}
 use Rattle.ixl_laws.proofs.Turns.{Taken, Walks, over_walks, walks_joined, walks_nowhere, walks_once}
 use Rattle.ixl_laws.proofs.WholeCounts.{SameCounts, counts_ruled}
-use Rattle.ixl_laws.proofs.WholeInput.{beaten_fits, given_fits}
+use Rattle.ixl_laws.proofs.WholeInput.{beaten_fits, clocked_fits, given_fits}
 use Rattle.ixl_laws.proofs.WholeRules.{RuleLaws, rules_walk}
 
 module _ (now : ℕ) (table : Table) where
@@ -36,16 +36,16 @@ module _ (now : ℕ) (table : Table) where
       points = over (known_point_ticking now) (length part.ixl.known_points) signals
 
   -- all that a step does after its input
-  pub step_walks : (laws : RuleLaws now table) (key : Key) (input : Input) (first : IxlState) (part : StepSoFar) → SameCounts first part.ixl → Fits table part.ixl →
+  pub step_walks : (laws : RuleLaws now table) (key : Key) (input : Input) (first : IxlState) (part : StepSoFar) → part.ixl ≡ all_clocked now first → Fits table first →
       Taken now table (turns_of_rules table.rows ++ turns_of_input input first) (given now table key input part)
-      (ticked now input (ruled now table (over (noting now table) (count table) (over (watching table) (count table) (given now table key input part)))))
-  step_walks laws key input first part counts fits =
+      (ticked now input (ruled now table (over (watching table) (count table) (given now table key input part))))
+  step_walks laws key input first part begins fits =
       walks_joined now table (turns_of_rules table.rows) (turns_of_input input first) heard rules (ticked now input rules)
-      (rules_walk now table laws heard) (ticks_walk first input rules (counts_ruled first now table key input part counts))
-      (given_fits table now key input part fits)
+      (rules_walk now table laws heard) (ticks_walk first input rules (counts_ruled first now table key input part begins))
+      (given_fits table now key input part (subst (Fits table) (sym begins) (clocked_fits table now first fits)))
     where
       heard : StepSoFar
       heard = given now table key input part
 
       rules : StepSoFar
-      rules = ruled now table (over (noting now table) (count table) (over (watching table) (count table) heard))
+      rules = ruled now table (over (watching table) (count table) heard)

@@ -6,7 +6,7 @@ use Rattle.ixl_state.specs.sci_telegram.declared.message.Protocol.TheVariants as
 use Rattle.ixl_state.specs.sci_telegram.declared.message.Side.{Side}
 use Rattle.ixl_state.specs.ixl_client.Client.{ClientState, PeerState, is_outside}
 use Rattle.ixl_state.specs.ixl_client.Made.{told_by_all}
-use Rattle.ixl_state.specs.ixl_client.Step.{clocked, closed_behind, message_of, telegram_to}
+use Rattle.ixl_state.specs.ixl_client.Step.{clocked, message_of, telegram_to}
 use Rattle.ixl_state.specs.ixl_client.declared.command.Command.TheVariants as commands
 use Rattle.ixl_state.specs.ixl_client.declared.indication.Indication.{Indication}
 use Rattle.ixl_state.specs.ixl_client.declared.indication.ObjectState.{ObjectState}
@@ -58,10 +58,6 @@ states_of heard = map (λ (told : Indication). told.state) heard
 abbrev pub told_in : PeerState → List (List ℕ) → List ObjectState
 told_in peer items = states_of (told_by_all peer items)
 
--- a client as the input of a step finds it: once the clock has acted, and closed where it isn't caught up any more
-abbrev pub found : ℕ → ClientState → ClientState
-found now client = closed_behind now (clocked now client)
-
 -- what was given or told before stays while the connection does
 abbrev pub kept_by : {A : Type 0} → ClientState → List A → List A
 kept_by client list = if is_outside client.stage then [] else list
@@ -70,5 +66,5 @@ kept_by client list = if is_outside client.stage then [] else list
 -- telegrams of the initialisation. And it told what the items tell that were acted on in the step.
 pub record GoesOnAnswered (now : ℕ) (input : Input) (old : InterlockingState) (place : ℕ) (before after : KnownPointState) (moves : List Side) (told : List ObjectState) : Type 0 where
   pub more : List Side
-  pub sent : is_outside after.client.stage ≡ false → items_said (found now before.client) ++ items_sent (of_node (Point place) (step_of now input old.state).calls) ≡ items_said after.client ++ move_items before.client.peer more
-  pub answered : IsAnswered (kept_by (found now before.client) moves ++ more) (kept_by (found now before.client) told ++ told_in before.client.peer (of_node (Point place) (step_of now input old.state).acted)) after
+  pub sent : is_outside after.client.stage ≡ false → items_said (clocked now before.client) ++ items_sent (of_node (Point place) (step_of now input old.state).calls) ≡ items_said after.client ++ move_items before.client.peer more
+  pub answered : IsAnswered (kept_by (clocked now before.client) moves ++ more) (kept_by (clocked now before.client) told ++ told_in before.client.peer (of_node (Point place) (step_of now input old.state).acted)) after

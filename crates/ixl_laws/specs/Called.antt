@@ -1,15 +1,14 @@
 -- What a step is to the link of each controller: a list of calls of this link, at the step's clock.
-use Rattle.std.specs.Prelude.{◌≡◌, ◌⊎◌, ◌&&◌, ℕ, Bool, true, List, [], ◌∷◌, ◌++◌, map, Option, Some, None, is_some, slice_get, if◌then◌else◌}
+use Rattle.std.specs.Prelude.{◌≡◌, ◌&&◌, ℕ, Bool, true, List, [], ◌∷◌, ◌++◌, map, Option, Some, None, is_some, slice_get, if◌then◌else◌}
 use Rattle.ixl_state.specs.rasta_core.Calls.{receiving}
 use Rattle.ixl_state.specs.rasta_core.Clock.{settled}
 use Rattle.ixl_state.specs.rasta_core.State.{LinkState, is_open}
-use Rattle.ixl_state.specs.rasta_core.reason.Reason.TheVariants as reason
 use Rattle.ixl_state.specs.rasta_pdu.PduRead.{reading}
 use Rattle.ixl_state.specs.ixl_client.Client.{ClientState}
 use Rattle.ixl_state.specs.ixl_client.Made.{AreOwn, outbox_after}
 use Rattle.ixl_state.specs.ixl_client.ClientSoFar.{LinkCall, Closes, Opens, Receives, Sends, Ticks, call_made}
 use Rattle.ixl_state.specs.ixl_spec.StepSoFar.{Detector, Node, Point, Signal, empty_outbox}
-use Rattle.ixl_state.specs.ixl_spec.Step.{Commands, Datagram, Input, Tick, addressed, as_found, client_at}
+use Rattle.ixl_state.specs.ixl_spec.Step.{Commands, Datagram, Input, Tick, addressed, all_clocked, client_at}
 use Rattle.ixl_state.specs.ixl_spec.Table.{Table}
 use Rattle.ixl_state.specs.First.{key_of}
 use Rattle.ixl.specs.Interlocking.{InterlockingState, step_of}
@@ -58,21 +57,13 @@ abbrev pub receipt_at : ℕ → Input → InterlockingState → Node → List Li
 receipt_at now Tick old node = []
 receipt_at now (Commands command) old node = []
 receipt_at now (Datagram bytes) old node =
-    receipt_by old.state.sited.table bytes (addressed (reading (key_of old.state.sited.site) bytes) (as_found now old.state.ixl)) node
+    receipt_by old.state.sited.table bytes (addressed (reading (key_of old.state.sited.site) bytes) (all_clocked now old.state.ixl)) node
 
 -- the receipt comes first, and no other call takes anything
 pub record ReceivesFirst (receipt calls : List LinkCall) : Type 0 where
   pub own : List LinkCall
   pub calls_are : calls ≡ receipt ++ own
   pub take_nothing : AreOwn own
-
--- before that a link that isn't caught up any more is closed
-pub record ComesInOrder (receipt calls : List LinkCall) : Type 0 where
-  pub closed : List LinkCall
-  pub others : List LinkCall
-  pub calls_are : calls ≡ closed ++ others
-  pub behind : (closed ≡ []) ⊎ (closed ≡ Closes reason.User ∷ [])
-  pub receives : ReceivesFirst receipt others
 
 -- The items acted on are a beginning of those taken, and all of them where the link is open after the step.
 pub record ActsOnTaken (taken acted : List (List ℕ)) (after : LinkState) : Type 0 where

@@ -11,14 +11,13 @@ use Rattle.ixl_state.specs.ixl_client.Made.{told_by_all}
 use Rattle.ixl_state.specs.ixl_client.declared.indication.Indication.{Indication}
 use Rattle.ixl_state.specs.ixl_spec.Due.{AllClear}
 use Rattle.ixl_state.specs.ixl_spec.State.{IxlState, KnownDetectorState, RouteState}
-use Rattle.ixl_state.specs.ixl_spec.StepSoFar.{Detector, Node, Point, Signal}
-use Rattle.ixl_state.specs.ixl_spec.Step.{Commands, Datagram, Input, Tick, addressed, as_found, client_at, is_told_occupied}
+use Rattle.ixl_state.specs.ixl_spec.StepSoFar.{Detector, Node, Point, Signal, begun_with, empty_outbox}
+use Rattle.ixl_state.specs.ixl_spec.Step.{Commands, Datagram, Input, Tick, addressed, all_clocked, client_at, given, is_told_occupied}
 use Rattle.ixl_state.specs.ixl_spec.Table.{Row, Table, at}
 use Rattle.ixl_state.specs.ixl_spec.View.{has_authority}
 use Rattle.ixl_state.specs.First.{key_of}
 use Rattle.ixl.specs.Interlocking.{InterlockingState}
 use Rattle.ixl_laws.specs.Called.{acted_at}
-use Rattle.ixl_laws.specs.WholeStep.{heard}
 
 -- ---- what a step tells of a section
 
@@ -51,11 +50,11 @@ told_if_listed section _ _ after items = []
 abbrev pub heard_in : ℕ → Input → InterlockingState → Option Node
 heard_in now Tick old = None
 heard_in now (Commands command) old = None
-heard_in now (Datagram bytes) old = addressed (reading (key_of old.state.sited.site) bytes) (as_found now old.state.ixl)
+heard_in now (Datagram bytes) old = addressed (reading (key_of old.state.sited.site) bytes) (all_clocked now old.state.ixl)
 
 abbrev pub told_by_node : ℕ → Input → InterlockingState → InterlockingState → ℕ → Option Node → List Bool
 told_by_node now input old new section (Some (Detector place)) =
-    told_if_listed section (slice_get old.state.sited.table.detectors place) (slice_get (as_found now old.state.ixl).detectors place)
+    told_if_listed section (slice_get old.state.sited.table.detectors place) (slice_get (all_clocked now old.state.ixl).detectors place)
     (client_at (Detector place) new.state.ixl) (acted_at now input old (Detector place))
 told_by_node now input old new section (Some (Signal place)) = []
 told_by_node now input old new section (Some (Point place)) = []
@@ -69,7 +68,7 @@ told_in now input old new section = told_by_node now input old new section (hear
 
 -- the interlocking once the clock and the input have acted
 abbrev pub as_told : ℕ → Input → InterlockingState → IxlState
-as_told now input old = (heard now input old).ixl
+as_told now input old = (given now old.state.sited.table (key_of old.state.sited.site) input (begun_with (all_clocked now old.state.ixl) empty_outbox)).ixl
 
 -- The route names approach sections, and all of them are clear.
 abbrev pub IsApproachClear : Table → IxlState → Row → Type 0

@@ -4,7 +4,6 @@ pub mod Called
 pub mod Cancels
 pub mod GivenOnce
 pub mod History
-pub mod ClearSince
 pub mod Links
 pub mod Nodes
 pub mod Onward

@@ -8,14 +8,14 @@ use Rattle.ixl_state.specs.sci_telegram.declared.message.Aspect.TheVariants as a
 use Rattle.ixl_state.specs.rasta_pdu.PduRead.{reading}
 use Rattle.ixl_state.specs.ixl_client.Client.{ClientState}
 use Rattle.ixl_state.specs.ixl_client.ClientSoFar.{LinkCall, Closes, Opens, Receives, Sends, Ticks, call_made}
-use Rattle.ixl_state.specs.ixl_client.Step.{is_behind, message_of, telegram_to}
+use Rattle.ixl_state.specs.ixl_client.Step.{message_of, telegram_to}
 use Rattle.ixl_state.specs.ixl_client.declared.command.Command.{Command}
 use Rattle.ixl_state.specs.ixl_client.declared.command.Command.TheVariants as commands
 use Rattle.ixl_state.specs.ixl_spec.declared.command.Command.{Command as Wanted}
 use Rattle.ixl_state.specs.ixl_spec.declared.command.Command.TheVariants as wanted
-use Rattle.ixl_state.specs.ixl_spec.State.{IxlState, KnownDetectorState, KnownPointState, KnownSignalState}
+use Rattle.ixl_state.specs.ixl_spec.State.{IxlState}
 use Rattle.ixl_state.specs.ixl_spec.StepSoFar.{Detector, Node, Point, Signal}
-use Rattle.ixl_state.specs.ixl_spec.Step.{Commands, Datagram, Input, Tick, addressed, all_clocked, as_found, client_at}
+use Rattle.ixl_state.specs.ixl_spec.Step.{Commands, Datagram, Input, Tick, addressed, all_clocked, client_at}
 use Rattle.ixl_state.specs.ixl_spec.Table.{Need, Row}
 use Rattle.ixl_state.specs.First.{key_of}
 use Rattle.ixl.specs.Interlocking.{InterlockingState, step_of}
@@ -71,23 +71,6 @@ pub record Gives (ixl : IxlState) (to : Node) (command : Command) (group : Calls
   pub calls : (group.calls ≡ Sends (writing (telegram_to client.peer (message_of command))) ∷ [])
       ⊎ (group.calls ≡ Sends (writing (telegram_to client.peer (message_of command))) ∷ Closes reason.Window ∷ [])
 
--- where trains are kept apart, each link of these that isn't caught up any more is closed
-abbrev pub closes : ℕ → (ℕ → Node) → ℕ → List ClientState → List CallsAtLink
-closes now node place [] = []
-closes now node place (client ∷ others) =
-    (if is_behind now client then record { node = node place; calls = Closes reason.User ∷ [] } ∷ [] else []) ++ closes now node (suc place) others
-
--- signals, points, detectors
-abbrev pub closes_in : ℕ → IxlState → List CallsAtLink
-closes_in now ixl =
-    closes now Signal 0 (map (λ (known_signal : KnownSignalState). known_signal.client) ixl.known_signals)
-    ++ (closes now Point 0 (map (λ (known_point : KnownPointState). known_point.client) ixl.known_points)
-    ++ closes now Detector 0 (map (λ (detector : KnownDetectorState). detector.client) ixl.detectors))
-
--- once the clock has acted
-abbrev pub closes_of : ℕ → IxlState → List CallsAtLink
-closes_of now ixl = closes_in now (all_clocked now ixl)
-
 -- a command calls no link, but a move that of its point
 abbrev pub AreOfCommand : IxlState → Wanted → List CallsAtLink → Type 0
 AreOfCommand ixl (wanted.Move point side) groups = AtMostOne (Gives ixl (Point point.0) (commands.Move side)) groups
@@ -98,7 +81,7 @@ abbrev pub AreOfInput : ℕ → Input → InterlockingState → List CallsAtLink
 AreOfInput now Tick old groups = groups ≡ []
 AreOfInput now (Commands command) old groups = AreOfCommand old.state.ixl command groups
 AreOfInput now (Datagram bytes) old groups = AtMostOne (λ group.
-    (addressed (reading (key_of old.state.sited.site) bytes) (as_found now old.state.ixl) ≡ Some group.node) × ReceivesFirst (Receives bytes ∷ []) group.calls) groups
+    (addressed (reading (key_of old.state.sited.site) bytes) (all_clocked now old.state.ixl) ≡ Some group.node) × ReceivesFirst (Receives bytes ∷ []) group.calls) groups
 
 -- the stop, the moves and the aspect of one route: its points stand in layout order
 abbrev pub IsStopOf : IxlState → Row → List CallsAtLink → Type 0
@@ -120,14 +103,14 @@ beats_of Tick ixl = beats Signal (length ixl.known_signals) ++ beats Point (leng
 beats_of (Commands command) ixl = []
 beats_of (Datagram bytes) ixl = []
 
--- First come the closes of links that aren't caught up any more, and the calls of the input; then stops, moves and the aspects
--- of routes, each of these for all routes in table order; then, on a tick, the heartbeat and the opening of each link.
+-- First come the calls of the input; then stops, moves and the aspects of routes, each of these for all routes in table
+-- order; then, on a tick, the heartbeat and the opening of each link.
 pub record CallsInOrder (now : ℕ) (input : Input) (old : InterlockingState) : Type 0 where
   pub heard : List CallsAtLink
   pub stops : List CallsAtLink
   pub moves : List CallsAtLink
   pub proceeds : List CallsAtLink
-  pub calls : (step_of now input old.state).calls ≡ calls_of (closes_of now old.state.ixl ++ heard ++ stops ++ moves ++ proceeds ++ beats_of input old.state.ixl)
+  pub calls : (step_of now input old.state).calls ≡ calls_of (heard ++ stops ++ moves ++ proceeds ++ beats_of input old.state.ixl)
   pub heard_are : AreOfInput now input old heard
   pub stops_are : InOrderOf (IsStopOf old.state.ixl) old.state.sited.table.rows stops
   pub moves_are : InOrderOf (AreMovesOf old.state.ixl) old.state.sited.table.rows moves

@@ -6,14 +6,13 @@ use Rattle.ixl_state.specs.ixl_client.Client.{ClientState, IsClient}
 use Rattle.ixl_state.specs.ixl_spec.StepSoFar.{StepSoFar, begun_with, empty_outbox, over}
 use Rattle.ixl_state.specs.ixl_spec.Rules.{count, ruled}
 use Rattle.ixl_state.specs.ixl_spec.State.{IxlState}
-use Rattle.ixl_state.specs.ixl_spec.Step.{all_clocked, all_closing, noting, watching}
+use Rattle.ixl_state.specs.ixl_spec.Step.{all_clocked, watching}
 use Rattle.ixl_state.specs.ixl_spec.Table.{Table}
 use Rattle.ixl.specs.Interlocking.{InterlockingState}
 
--- the clock, links that aren't caught up any more, what is seen and noted of routes with authority, and the six rules
+-- the clock, what is seen of routes with authority, and the six rules
 abbrev pub step_without_input : ℕ → Table → IxlState → StepSoFar
-step_without_input now table ixl =
-    ruled now table (over (noting now table) (count table) (over (watching table) (count table) (all_closing now (begun_with (all_clocked now ixl) empty_outbox))))
+step_without_input now table ixl = ruled now table (over (watching table) (count table) (begun_with (all_clocked now ixl) empty_outbox))
 
 -- An interlocking is as it would be without an input, and has handed out the same.
 pub record IsWithoutInput (now : ℕ) (old new : InterlockingState) : Type 0 where

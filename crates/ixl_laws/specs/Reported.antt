@@ -3,12 +3,13 @@ use Rattle.std.specs.Prelude.{◌≡◌, ◌==◌, ℕ, Bool, false, List, [], �
 use Rattle.std.specs.FinSet.{contains}
 use Rattle.ixl_state.specs.ixl_client.Client.{is_outside}
 use Rattle.ixl_state.specs.ixl_client.Made.{told_by_all}
+use Rattle.ixl_state.specs.ixl_client.Step.{clocked}
 use Rattle.ixl_state.specs.ixl_client.declared.indication.Indication.{Indication}
 use Rattle.ixl_state.specs.ixl_spec.State.{KnownDetectorState}
 use Rattle.ixl_state.specs.ixl_spec.StepSoFar.{Detector}
 use Rattle.ixl_state.specs.ixl_spec.Step.{Input, is_told_occupied}
 use Rattle.ixl.specs.Interlocking.{InterlockingState}
-use Rattle.ixl_laws.specs.Answered.{found, kept_by}
+use Rattle.ixl_laws.specs.Answered.{kept_by}
 use Rattle.ixl_laws.specs.Called.{acted_at}
 use Rattle.ixl_laws.specs.History.{last_told}
 
@@ -25,4 +26,4 @@ IsReported told detector = is_outside detector.client.stage ≡ false → (place
 -- after a step: what was told before, while the connection lasts, and what the items tell that were acted on
 abbrev pub GoesOnReported : ℕ → Input → InterlockingState → ℕ → KnownDetectorState → KnownDetectorState → List Indication → Type 0
 GoesOnReported now input old place before after told =
-    IsReported (kept_by (found now before.client) told ++ told_by_all before.client.peer (acted_at now input old (Detector place))) after
+    IsReported (kept_by (clocked now before.client) told ++ told_by_all before.client.peer (acted_at now input old (Detector place))) after

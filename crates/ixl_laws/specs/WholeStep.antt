@@ -5,12 +5,11 @@ use Rattle.ixl_state.specs.ixl_spec.Due.{DoesWhere, FreeByCancel, IsRouteOf, Mov
 use Rattle.ixl_state.specs.ixl_spec.EndDue.{EndDue, SomeFreeable}
 use Rattle.ixl_state.specs.ixl_spec.Rules.{authorised, come_to, freed, one_freed, stopped}
 use Rattle.ixl_state.specs.ixl_spec.State.{IxlState, RouteState}
-use Rattle.ixl_state.specs.ixl_spec.Step.{Commands, Datagram, Input, Tick, all_clocked, all_closing, detector_ticking, given, known_point_ticking, known_signal_ticking}
+use Rattle.ixl_state.specs.ixl_spec.Step.{Commands, Datagram, Input, Tick, all_clocked, detector_ticking, given, known_point_ticking, known_signal_ticking}
 use Rattle.ixl_state.specs.ixl_spec.StepSoFar.{Detector, Node, Point, Signal, StepSoFar, begun_with, empty_outbox, giving_aspect, giving_move, with_route}
 use Rattle.ixl_state.specs.ixl_spec.Table.{Need, Row, Table}
-use Rattle.ixl_state.specs.ixl_spec.View.{all_clear, has_authority, is_approach_clear, was_authorised}
+use Rattle.ixl_state.specs.ixl_spec.View.{has_authority, is_approach_clear}
 use Rattle.ixl_state.specs.ixl_spec.declared.phase.Phase.TheVariants as phase
-use Rattle.ixl_state.specs.release.Reports.{clear_since_after}
 use Rattle.ixl_state.specs.First.{key_of}
 use Rattle.ixl.specs.Interlocking.{InterlockingState}
 use Rattle.ixl_laws.specs.Called.{calls_at}
@@ -22,8 +21,6 @@ use Rattle.ixl_laws.specs.Nodes.{of_node}
 pub data Turn : Type 0 where
   -- the route looks at its approach
   Watch : ℕ → Turn
-  -- the route notes since when its sections are clear
-  Note : ℕ → Turn
   -- rule 1
   Withdraw : ℕ → Turn
   -- rule 2
@@ -50,13 +47,12 @@ for_each turns place (one ∷ others) = turns place one ++ for_each turns (suc p
 abbrev pub turns_of_rules : List Row → List Turn
 turns_of_rules rows =
     for_each (λ number row. Watch number ∷ []) 0 rows
-    ++ (for_each (λ number row. Note number ∷ []) 0 rows
     ++ (for_each (λ number row. Withdraw number ∷ []) 0 rows
     ++ (for_each (λ number row. EndAuthority number ∷ []) 0 rows
     ++ (for_each (λ number row. map (λ section. FreeSection number) row.sections ++ Passed number ∷ []) 0 rows
     ++ (for_each (λ number row. FreeCancelled number ∷ []) 0 rows
     ++ (for_each (λ number row. map (MovePoint number) row.needs) 0 rows
-    ++ for_each (λ number row. Proceed number ∷ []) 0 rows))))))
+    ++ for_each (λ number row. Proceed number ∷ []) 0 rows)))))
 
 -- then a tick comes to each link
 abbrev pub turns_of_input : Input → IxlState → List Turn
@@ -77,11 +73,6 @@ AtRoute table number part holds = (row : Row) × (route : RouteState) × IsRoute
 abbrev pub approach_seen : Table → IxlState → Row → RouteState → RouteState
 approach_seen table ixl row route = record route { approached = route.approached || not (is_approach_clear table ixl row) }
 
--- since when its sections are clear
-abbrev pub sections_noted : ℕ → Table → IxlState → Row → RouteState → RouteState
-sections_noted now table ixl row route =
-    record route { clear_since = clear_since_after now (all_clear table ixl row.sections) route.clear_since }
-
 abbrev pub beaten : ℕ → Node → StepSoFar → StepSoFar
 beaten now (Signal place) part = known_signal_ticking now place part
 beaten now (Point place) part = known_point_ticking now place part
@@ -91,8 +82,6 @@ beaten now (Detector place) part = detector_ticking now place part
 abbrev pub DoesItsTurn : ℕ → Table → Turn → StepSoFar → StepSoFar → Type 0
 DoesItsTurn now table (Watch number) before after = AtRoute table number before (λ row route.
     DoesWhere (has_authority route.phase ≡ true) before (with_route number (approach_seen table before.ixl row) before) after)
-DoesItsTurn now table (Note number) before after = AtRoute table number before (λ row route.
-    DoesWhere ((table.is_strict ≡ true) × (was_authorised route.phase ≡ true)) before (with_route number (sections_noted now table before.ixl row) before) after)
 DoesItsTurn now table (Withdraw number) before after = AtRoute table number before (λ row route.
     DoesWhere (StopDue table before.ixl row route) before (stopped now row (with_route number (come_to phase.Withdrawn) before)) after)
 DoesItsTurn now table (EndAuthority number) before after = AtRoute table number before (λ row route.
@@ -125,9 +114,9 @@ Follow now table begin [] end = end ≡ begin
 Follow now table begin (first ∷ others) end =
     (first.before ≡ begin) × DoesItsTurn now table first.turn first.before first.after × Follow now table first.after others end
 
--- what the clock left, with each link closed that isn't caught up any more; and what the input left then
+-- what the clock left, and what the input left then
 abbrev pub clock_left : ℕ → InterlockingState → StepSoFar
-clock_left now old = all_closing now (begun_with (all_clocked now old.state.ixl) empty_outbox)
+clock_left now old = begun_with (all_clocked now old.state.ixl) empty_outbox
 
 abbrev pub heard : ℕ → Input → InterlockingState → StepSoFar
 heard now input old = given now old.state.sited.table (key_of old.state.sited.site) input (clock_left now old)

@@ -14,7 +14,7 @@ ghost use Rattle.ixl_state.specs.ixl_table.Table.{IsTableOf};
 ghost use Rattle.ixl_state.specs.ixl_spec.Due.{HoldsPoint, HoldsSection, Known, MoveDue};
 ghost use Rattle.ixl_state.specs.ixl_spec.StepSoFar.{Node, StepSoFar, giving_move};
 ghost use Rattle.ixl_state.specs.ixl_spec.State.{IxlState, KnownDetectorState, RouteState, KnownPointState};
-ghost use Rattle.ixl_state.specs.ixl_spec.Step.{Accepted, Commands, Datagram, Input, Received, Refused, Reply, Tick, addressed, as_found, client_at, client_of};
+ghost use Rattle.ixl_state.specs.ixl_spec.Step.{Accepted, Commands, Datagram, Input, Received, Refused, Reply, Tick, all_clocked, addressed, client_at, client_of};
 ghost use Rattle.ixl_state.specs.ixl_spec.Table.{Need, Row, Table};
 ghost use Rattle.ixl_state.specs.ixl_spec.View.{freed_sections, has_authority, is_holding, is_set, was_authorised};
 ghost use Rattle.ixl_state.specs.ixl_spec.declared.command.Command.TheVariants as commands;
@@ -25,8 +25,7 @@ ghost use Rattle.ixl_state.specs.First.{Beginning, key_of, new_ixl};
 ghost use Rattle.ixl.specs.Interlocking.{HasStepped, InterlockingState, step_of};
 ghost use Rattle.ixl_laws.specs.Answered.{GoesOnAnswered, IsAnswered, last_told};
 ghost use Rattle.ixl_laws.specs.Apart.{AllApart, DoNotConflict, IsWhole, StandApart};
-ghost use Rattle.ixl_laws.specs.Called.{ActsOnTaken, ComesInOrder, HandsOut, IsNobody, Stays, acted_at, calls_at, items_taken, receipt_at};
-ghost use Rattle.ixl_laws.specs.ClearSince.{NotesSections};
+ghost use Rattle.ixl_laws.specs.Called.{ActsOnTaken, HandsOut, IsNobody, ReceivesFirst, Stays, acted_at, calls_at, items_taken, receipt_at};
 ghost use Rattle.ixl_laws.specs.Cancels.{IsCancelRefused, IsResumeRefused, MayCancel};
 ghost use Rattle.ixl_laws.specs.History.{BeginsTold, ComesAt, GoesOnTold, History, TellsOf};
 ghost use Rattle.ixl_laws.specs.Links.{NoneDown};
@@ -95,9 +94,9 @@ pub fn moves_are_given_once()
 pub fn refused_inputs_change_nothing()
     ensures command { (now : ℕ) (command : Command) (old new : InterlockingState) (cause : Refusal) → HasStepped now (Commands command) old new (Refused cause) → IsWithoutInput now old new }
     ensures datagram { (now : ℕ) (bytes : List ℕ) (old new : InterlockingState) (answer : Reply) → HasStepped now (Datagram bytes) old new answer
-        → addressed (reading (key_of old.state.sited.site) bytes) (as_found now old.state.ixl) ≡ None → IsWithoutInput now old new }
+        → addressed (reading (key_of old.state.sited.site) bytes) (all_clocked now old.state.ixl) ≡ None → IsWithoutInput now old new }
     ensures link { (now : ℕ) (bytes : List ℕ) (old new : InterlockingState) (why : Verdict) (client : ClientState) → HasStepped now (Datagram bytes) old new (Received why)
-        → client_of (addressed (reading (key_of old.state.sited.site) bytes) (as_found now old.state.ixl)) (as_found now old.state.ixl) ≡ Some client → MayHear client
+        → client_of (addressed (reading (key_of old.state.sited.site) bytes) (all_clocked now old.state.ixl)) (all_clocked now old.state.ixl) ≡ Some client → MayHear client
         → is_refusal why ≡ true → (why ≡ verdicts.WrongState → IsInNoConnection client) → IsWithoutInput now old new }
 {}
 
@@ -164,15 +163,6 @@ pub fn routes_keep_what_was_told_since_authority()
     step_hears_what_was_taken();
 }
 
-/// Where trains are kept apart, a route that was given authority before a step, and in this setting is set behind it, notes in the
-/// step since when all its sections are clear.
-pub fn sections_are_noted_step_by_step()
-    ensures { (now : ℕ) (input : Input) (old new : InterlockingState) (answer : Reply) (number : ℕ) (row : Row) (before after : RouteState) → HasStepped now input old new answer
-        → old.state.sited.table.is_strict ≡ true
-        → slice_get old.state.sited.table.rows number ≡ Some row → slice_get old.state.ixl.routes number ≡ Some before → slice_get new.state.ixl.routes number ≡ Some after
-        → was_authorised before.phase ≡ true → was_authorised after.phase ≡ true → NotesSections now input old row before after }
-{}
-
 /// Of each section a detector's last report in its present connection stands, and where it made none yet the section is kept as
 /// clear. So it is at first, and through every step.
 pub fn sections_are_kept_as_they_were_told_last()
@@ -203,15 +193,14 @@ pub fn the_last_report_answers_the_last_move()
 
 /// To the link of each controller a step is a list of calls at its clock: the link after it is what these calls, one after
 /// another, make of the link that the clock left. So a link of which no call is made is only settled. A datagram is received
-/// first, by the controller that it names as its sender, but behind the close of a link that isn't caught up any more; and no other
-/// call takes anything. The items acted on are a beginning
+/// first, by the controller that it names as its sender, and no other call takes anything. The items acted on are a beginning
 /// of those that the calls take, and all of them where the link stays open. What the step hands out are the datagrams of these
 /// calls, for each link in their order. Controllers neither come nor go.
 pub fn steps_are_calls()
     ensures link { (now : ℕ) (input : Input) (old new : InterlockingState) (answer : Reply) (node : Node) (before after : ClientState) → HasStepped now input old new answer
         → client_at node old.state.ixl ≡ Some before → client_at node new.state.ixl ≡ Some after → after.link ≡ link_after now (calls_at now input old node) (settled now before.link) }
     ensures receipt { (now : ℕ) (input : Input) (old new : InterlockingState) (answer : Reply) (node : Node) (before : ClientState) → HasStepped now input old new answer
-        → client_at node old.state.ixl ≡ Some before → ComesInOrder (receipt_at now input old node) (calls_at now input old node) }
+        → client_at node old.state.ixl ≡ Some before → ReceivesFirst (receipt_at now input old node) (calls_at now input old node) }
     ensures items { (now : ℕ) (input : Input) (old new : InterlockingState) (answer : Reply) (node : Node) (before after : ClientState) → HasStepped now input old new answer
         → client_at node old.state.ixl ≡ Some before → client_at node new.state.ixl ≡ Some after
         → ActsOnTaken (items_taken now (calls_at now input old node) (settled now before.link)) (acted_at now input old node) after.link }

@@ -10,9 +10,8 @@ pub use laws::{
     moves_are_given_once, nothing_is_set_in_the_hold, refused_inputs_change_nothing,
     resumes_are_accepted_behind_the_hold, routes_go_on_in_their_order,
     routes_keep_what_was_told_since_authority, routes_with_authority_hold_all,
-    sections_are_kept_as_they_were_told_last, sections_are_noted_step_by_step,
-    set_routes_stand_apart, steps_are_calls, the_last_report_answers_the_last_move,
-    ticks_leave_no_link_down,
+    sections_are_kept_as_they_were_told_last, set_routes_stand_apart, steps_are_calls,
+    the_last_report_answers_the_last_move, ticks_leave_no_link_down,
 };
 pub use operations::{
     a_move_by_command_is_given_once, a_release_frees_only_after_its_time,

@@ -16,7 +16,7 @@ ghost use Rattle.ixl_state.specs.ixl_spec.Due.{Uses};
 ghost use Rattle.ixl_state.specs.ixl_spec.OperationCauses.{Holds, IsCloseRefused, IsMoveRefused, IsNamed, IsReleaseRefused, MayBeClosed, MayBeMoved, MayBeReleased, NoRoute};
 ghost use Rattle.ixl_state.specs.ixl_spec.Rules.{freed};
 ghost use Rattle.ixl_state.specs.ixl_spec.State.{RouteState};
-ghost use Rattle.ixl_state.specs.ixl_spec.Step.{Accepted, Commands, Input, Refused, Reply, as_found};
+ghost use Rattle.ixl_state.specs.ixl_spec.Step.{Accepted, Commands, Input, Refused, Reply, all_clocked};
 ghost use Rattle.ixl_state.specs.ixl_spec.StepSoFar.{with_route};
 ghost use Rattle.ixl_state.specs.ixl_spec.Table.{Table};
 ghost use Rattle.ixl_state.specs.ixl_spec.declared.command.Command.TheVariants as commands;
@@ -38,19 +38,19 @@ use ixl_state::ixl_spec::{
 /// first cause that is given.
 pub fn operations_are_accepted_where_they_may_be()
     ensures released { (now : ℕ) (route : RouteId) (old new : InterlockingState) (answer : Reply) → HasStepped now (Commands (commands.Release route)) old new answer
-        → Fits old.state.sited.table old.state.ixl → answer ≡ Accepted ↔ MayBeReleased now old.state.sited.table (as_found now old.state.ixl) route.0 }
+        → Fits old.state.sited.table old.state.ixl → answer ≡ Accepted ↔ MayBeReleased now old.state.sited.table (all_clocked now old.state.ixl) route.0 }
     ensures unreleased { (now : ℕ) (route : RouteId) (old new : InterlockingState) (answer : Reply) (cause : Refusal) → HasStepped now (Commands (commands.Release route)) old new answer
-        → Fits old.state.sited.table old.state.ixl → answer ≡ Refused cause → IsReleaseRefused now old.state.sited.table (as_found now old.state.ixl) route.0 cause }
+        → Fits old.state.sited.table old.state.ixl → answer ≡ Refused cause → IsReleaseRefused now old.state.sited.table (all_clocked now old.state.ixl) route.0 cause }
     ensures moved { (now : ℕ) (point : PointId) (side : Side) (old new : InterlockingState) (answer : Reply) → HasStepped now (Commands (commands.Move point side)) old new answer
-        → answer ≡ Accepted ↔ MayBeMoved now old.state.sited.table (as_found now old.state.ixl) point side }
+        → answer ≡ Accepted ↔ MayBeMoved now old.state.sited.table (all_clocked now old.state.ixl) point side }
     ensures unmoved { (now : ℕ) (point : PointId) (side : Side) (old new : InterlockingState) (answer : Reply) (cause : Refusal) → HasStepped now (Commands (commands.Move point side)) old new answer
-        → answer ≡ Refused cause → IsMoveRefused now old.state.sited.table (as_found now old.state.ixl) point side cause }
+        → answer ≡ Refused cause → IsMoveRefused now old.state.sited.table (all_clocked now old.state.ixl) point side cause }
     ensures closed { (now : ℕ) (named : Named) (old new : InterlockingState) (answer : Reply) → HasStepped now (Commands (commands.Close named)) old new answer
-        → answer ≡ Accepted ↔ MayBeClosed old.state.sited.table (as_found now old.state.ixl) named }
+        → answer ≡ Accepted ↔ MayBeClosed old.state.sited.table (all_clocked now old.state.ixl) named }
     ensures unclosed { (now : ℕ) (named : Named) (old new : InterlockingState) (answer : Reply) (cause : Refusal) → HasStepped now (Commands (commands.Close named)) old new answer
-        → answer ≡ Refused cause → IsCloseRefused old.state.sited.table (as_found now old.state.ixl) named cause }
+        → answer ≡ Refused cause → IsCloseRefused old.state.sited.table (all_clocked now old.state.ixl) named cause }
     ensures opened { (now : ℕ) (named : Named) (old new : InterlockingState) (answer : Reply) → HasStepped now (Commands (commands.Open named)) old new answer
-        → answer ≡ Accepted ↔ IsNamed old.state.sited.table (as_found now old.state.ixl) named }
+        → answer ≡ Accepted ↔ IsNamed old.state.sited.table (all_clocked now old.state.ixl) named }
 {
     release_is_accepted_where_it_may_be();
     move_is_accepted_where_it_may_be();

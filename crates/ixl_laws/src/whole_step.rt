@@ -14,7 +14,7 @@ ghost use Rattle.ixl_state.specs.sci_telegram.declared.message.Side.{Side};
 ghost use Rattle.ixl.specs.Interlocking.{HasStepped, InterlockingState};
 ghost use Rattle.ixl_laws.specs.GivenOnce.{GivesMove, GivesProceed, GivesStop, GivesTelegram, InNone, NoneBehind, OneAfterAnother, ProceedGiven, SetsAnew, StepTaken, telegram_for};
 ghost use Rattle.ixl_laws.specs.UnsoundAspect.{IsUnsound};
-ghost use Rattle.ixl_laws.specs.WholeStep.{EndAuthority, Fits, FreeCancelled, FreeSection, MovePoint, Note, Passed, Proceed, Watch, WholeStep, Withdraw, heard, turns_of_rules};
+ghost use Rattle.ixl_laws.specs.WholeStep.{EndAuthority, Fits, FreeCancelled, FreeSection, MovePoint, Passed, Proceed, Watch, WholeStep, Withdraw, heard, turns_of_rules};
 
 use ixl_client::initialisations_go_out_in_order;
 use ixl_state::ixl_spec::{
@@ -46,7 +46,7 @@ pub fn whole_steps_do_what_is_due()
 #[tactic(auto, using(crate::proofs::TwoRoutes::two_routes))]
 pub fn two_routes_take_their_turns()
     ensures { (first second : Row) (a b c : ℕ) (need : Need) → first.sections ≡ a ∷ b ∷ [] → first.needs ≡ need ∷ [] → second.sections ≡ c ∷ [] → second.needs ≡ []
-        → turns_of_rules (first ∷ second ∷ []) ≡ Watch 0 ∷ Watch 1 ∷ Note 0 ∷ Note 1 ∷ Withdraw 0 ∷ Withdraw 1 ∷ EndAuthority 0 ∷ EndAuthority 1
+        → turns_of_rules (first ∷ second ∷ []) ≡ Watch 0 ∷ Watch 1 ∷ Withdraw 0 ∷ Withdraw 1 ∷ EndAuthority 0 ∷ EndAuthority 1
         ∷ FreeSection 0 ∷ FreeSection 0 ∷ Passed 0 ∷ FreeSection 1 ∷ Passed 1 ∷ FreeCancelled 0 ∷ FreeCancelled 1 ∷ MovePoint 0 need ∷ Proceed 0 ∷ Proceed 1 ∷ [] }
 {}
 

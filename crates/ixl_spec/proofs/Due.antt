@@ -1,19 +1,18 @@
 -- What the tests of the rules decide, and what each rule does at one route.
-use Rattle.std.proofs.Common.{inl, inr, ◌≡◌, ◌⊎◌, ℕ, suc, zero, ◌<◌, ◌≤◌, Bool, true, false, not, if◌then◌else◌, length, arith, refl, ap, sym, ◌∙◌, subst}
+use Rattle.std.proofs.Common.{inl, inr, ◌≡◌, ◌⊎◌, ℕ, suc, zero, ◌<◌, ◌≤◌, Bool, true, false, if◌then◌else◌, length, arith, refl, ap, sym, ◌∙◌, subst}
 use Rattle.std.specs.Prelude.{◌&&◌, ◌||◌, nat_lt, IsTrue}
 use Rattle.std.specs.FinSet.{contains}
 use Rattle.std.proofs.lemmas.Bool.{false≢true, le-leb, leb-true, ltb-false, ltb-true}
 use Rattle.std.proofs.lemmas.Option.{same_Some}
 use Rattle.std.specs.Prelude.{Option, Some, None}
 use Rattle.release.specs.Approach.{approach_end, is_due}
-use Rattle.release.specs.Reports.{have_come, is_clear_long, report_end}
 use Rattle.release.specs.Passage.{PassageState, is_freeable}
 use Rattle.ixl_spec.specs.Table.{Need, Row, Table, at}
 use Rattle.ixl_spec.specs.State.{IxlState, RouteState}
 use Rattle.ixl_spec.specs.View.{all_clear, is_at_known_stop, is_clear}
-use Rattle.ixl_spec.specs.Due.{AllClear, AllKnown, At, DoesWhere, FreeByCancel, HasFreshReports, IsAvailable, IsClear, IsHeldWithAuthority, IsReleaseOver, IsRouteOf, IsSignalReady, Known, KnownStop, LetsGo, LiesInClosed, MoveDue, ProceedDue, StopDue}
+use Rattle.ixl_spec.specs.Due.{AllClear, AllKnown, At, DoesWhere, FreeByCancel, IsAvailable, IsClear, IsHeldWithAuthority, IsReleaseOver, IsRouteOf, IsSignalReady, Known, KnownStop, LetsGo, LiesInClosed, MoveDue, ProceedDue, StopDue}
 use Rattle.ixl_spec.specs.StepSoFar.{StepSoFar, at_route, giving_aspect, giving_move, with_route}
-use Rattle.ixl_spec.specs.Rules.{authorised, come_to, ending_authority, freed, freeing_by_cancel, freeing_next, frees_cancelled, frees_next, is_fresh, is_move_due, is_over_clear, is_proceed_due, is_proceeding, is_release_over, is_stop_due, is_unmoved, is_waiting, is_withdrawn, moving_one, none_seen, one_freed, proceeding, stopped, withdrawing}
+use Rattle.ixl_spec.specs.Rules.{authorised, come_to, ending_authority, freed, freeing_by_cancel, freeing_next, frees_cancelled, frees_next, is_move_due, is_over_clear, is_proceed_due, is_proceeding, is_release_over, is_stop_due, is_unmoved, is_waiting, is_withdrawn, moving_one, none_seen, one_freed, proceeding, stopped, withdrawing}
 use Rattle.ixl_spec.specs.declared.phase.Phase.{Phase}
 use Rattle.ixl_spec.specs.declared.phase.Phase.TheVariants as phase
 use Rattle.ixl_spec.specs.EndDue.{EndDue, SomeFreeable}
@@ -115,33 +114,15 @@ clock_of : Phase → ℕ
 clock_of (phase.Ended clock done) = clock
 clock_of _ = 0
 
--- reports are fresh where trains are kept apart
-fresh_decides : (now : ℕ) (table : Table) (route : RouteState) (ended_at : ℕ) → Decides (is_fresh now table route ended_at) (table.is_strict ≡ true → HasFreshReports now route ended_at)
-fresh_decides now table route ended_at = by_key table.is_strict where
-  by_note : (note : Option ℕ) → route.clear_since ≡ note → Decides (have_come ended_at now && is_clear_long now note) (HasFreshReports now route ended_at)
-  by_note None is = record { yes = λ b. absurd (false≢true (and_yes (have_come ended_at now) false b).1); shown = λ fresh. absurd (none_is (sym is ∙ fresh.noted)) }
-  by_note (Some since) is = record {
-    yes = λ b. let both = and_yes (have_come ended_at now) (have_come since now) b in record { ended = leb-true _ _ both.0; since = since; noted = is; clear = leb-true _ _ both.1 };
-    shown = λ fresh. and_shown (have_come ended_at now) (have_come since now) (le-leb _ _ fresh.ended)
-        (le-leb _ _ (subst (λ c. report_end c ≤ now) (same_Some _ _ (sym fresh.noted ∙ is)) fresh.clear));
-  }
-
-  by_key : (key : Bool) → Decides (not key || (have_come ended_at now && is_clear_long now route.clear_since)) (key ≡ true → HasFreshReports now route ended_at)
-  by_key true = record { yes = λ b. λ strict. (by_note route.clear_since refl).yes b; shown = λ fresh. (by_note route.clear_since refl).shown (fresh refl) }
-  by_key false = record { yes = λ b. λ strict. absurd (false≢true strict); shown = λ fresh. refl }
-
 lets_go_decides : (now : ℕ) (table : Table) (ixl : IxlState) (row : Row) (route : RouteState) (ended_at : ℕ) →
-    Decides (none_seen (length row.sections) route.passage && all_clear table ixl row.sections && is_due route.approached ended_at now && is_fresh now table route ended_at) (LetsGo now table ixl row route ended_at)
+    Decides (none_seen (length row.sections) route.passage && all_clear table ixl row.sections && is_due route.approached ended_at now) (LetsGo now table ixl row route ended_at)
 lets_go_decides now table ixl row route ended_at = record {
-  yes = λ is. let all = parts.yes is in record { unseen = all.0.0.0; clear = all.0.0.1; approach = all.0.1; fresh = all.1 };
-  shown = λ is. parts.shown (((is.unseen, is.clear), is.approach), is.fresh);
+  yes = λ is. let all = parts.yes is in record { unseen = all.0.0; clear = all.0.1; approach = all.1 };
+  shown = λ is. parts.shown ((is.unseen, is.clear), is.approach);
 } where
-  parts : Decides (none_seen (length row.sections) route.passage && all_clear table ixl row.sections && is_due route.approached ended_at now && is_fresh now table route ended_at)
-      (((((place : ℕ) → place < length row.sections → contains route.passage.seen place ≡ false) × AllClear table ixl row.sections) × ((route.approached ≡ false) ⊎ (approach_end ended_at ≤ now)))
-      × (table.is_strict ≡ true → HasFreshReports now route ended_at))
-  parts = both_decide _ _ _ _
-      (both_decide _ _ _ _ (both_decide _ _ _ _ (none_seen_decides (length row.sections) route.passage) (all_clear_decides table ixl row.sections)) (due_decides route.approached ended_at now))
-      (fresh_decides now table route ended_at)
+  parts : Decides (none_seen (length row.sections) route.passage && all_clear table ixl row.sections && is_due route.approached ended_at now)
+      ((((place : ℕ) → place < length row.sections → contains route.passage.seen place ≡ false) × AllClear table ixl row.sections) × ((route.approached ≡ false) ⊎ (approach_end ended_at ≤ now)))
+  parts = both_decide _ _ _ _ (both_decide _ _ _ _ (none_seen_decides (length row.sections) route.passage) (all_clear_decides table ixl row.sections)) (due_decides route.approached ended_at now)
 
 release_decides : (now : ℕ) (route : RouteState) → Decides (is_release_over now route.released) (IsReleaseOver now route)
 release_decides now route = by_note route.released refl where
@@ -161,7 +142,7 @@ cancel_decides now table ixl row route = both_decide _ _ _ _ (itself_decides rou
       ⊎ ((clock : ℕ) × (done : ℕ) × (route.phase ≡ phase.Ended clock done) × (LetsGo now table ixl row route clock ⊎ IsReleaseOver now route))
 
   ended_decides : (clock : ℕ) →
-      Decides ((none_seen (length row.sections) route.passage && all_clear table ixl row.sections && is_due route.approached clock now && is_fresh now table route clock) || is_release_over now route.released)
+      Decides ((none_seen (length row.sections) route.passage && all_clear table ixl row.sections && is_due route.approached clock now) || is_release_over now route.released)
       (LetsGo now table ixl row route clock ⊎ IsReleaseOver now route)
   ended_decides clock = or_decide _ _ _ _ (lets_go_decides now table ixl row route clock) (release_decides now route)
 
@@ -174,7 +155,7 @@ cancel_decides now table ixl row route = both_decide _ _ _ _ (itself_decides rou
   waiting is (inr e) = absurd (false≢true (ap is_ended (sym is ∙ e.2)))
 
   gone : (clock done : ℕ) → route.phase ≡ phase.Ended clock done → Either →
-      (none_seen (length row.sections) route.passage && all_clear table ixl row.sections && is_due route.approached clock now && is_fresh now table route clock) || is_release_over now route.released ≡ true
+      (none_seen (length row.sections) route.passage && all_clear table ixl row.sections && is_due route.approached clock now) || is_release_over now route.released ≡ true
   gone clock done is (inl e) = absurd (false≢true (ap is_waiting (sym is ∙ e.0)))
   gone clock done is (inr e) = (ended_decides clock).shown (subst (λ c. LetsGo now table ixl row route c ⊎ IsReleaseOver now route) (ap clock_of (sym e.2 ∙ is)) e.3)
 

@@ -9,4 +9,3 @@ pub mod FirstRoute
 pub mod Uses
 pub mod Requests
 pub mod Operations
-pub mod CaughtUp

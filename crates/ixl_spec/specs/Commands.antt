@@ -150,9 +150,9 @@ refusal now table (commands.Open named) ixl = open_refusal table ixl named
 
 -- what a command that isn't refused does
 
--- in each setting a route isn't released at first, and nothing is noted of its sections
+-- in each setting a route isn't released at first
 abbrev pub set_anew : RouteState → RouteState
-set_anew route = record route { phase = phase.Waiting; cancelled = false; released = None; clear_since = None }
+set_anew route = record route { phase = phase.Waiting; cancelled = false; released = None }
 
 -- a route is set: from here on each point counts as unmoved for it
 abbrev pub unmoved_for : ℕ → KnownPointState → KnownPointState

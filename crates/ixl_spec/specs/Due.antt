@@ -10,7 +10,6 @@ use Rattle.closings.specs.Closed.{IsClosed}
 use Rattle.rasta_core.specs.Clock.{quiet_until}
 use Rattle.rasta_core.specs.State.{confirmed_items, is_up}
 use Rattle.release.specs.Approach.{approach_end}
-use Rattle.release.specs.Reports.{HaveCome}
 use Rattle.ixl_client.specs.Client.{is_available, is_ready}
 use Rattle.ixl_spec.specs.Table.{Need, Row, Table}
 use Rattle.ixl_spec.specs.State.{KnownDetectorState, IxlState, KnownSignalState, RouteState}
@@ -168,22 +167,12 @@ pub record Freeable (table : Table) (ixl : IxlState) (row : Row) (route : RouteS
   pub clear : At row.sections place (IsClear table ixl)
   pub next : (suc place ≡ length row.sections) ⊎ IsTrue (contains route.passage.seen (suc place))
 
--- Reports of a route are fresh: all reports of what a train did before its authority ended have come, and its sections are clear,
--- without a break, since a moment of which all reports have come.
-pub record HasFreshReports (now : ℕ) (route : RouteState) (ended_at : ℕ) : Type 0 where
-  pub ended : HaveCome ended_at now
-  pub since : ℕ
-  pub noted : route.clear_since ≡ Some since
-  pub clear : HaveCome since now
-
 -- A route whose authority ended at this clock lets itself be freed: no section was reported occupied since authority was
--- given, all are clear, and the approach was clear in each step, or the approach time is over. Where trains are kept apart its
--- reports are fresh, too.
+-- given, all are clear, and the approach was clear in each step, or the approach time is over.
 pub record LetsGo (now : ℕ) (table : Table) (ixl : IxlState) (row : Row) (route : RouteState) (ended_at : ℕ) : Type 0 where
   pub unseen : (place : ℕ) → place < length row.sections → contains route.passage.seen place ≡ false
   pub clear : AllClear table ixl row.sections
   pub approach : (route.approached ≡ false) ⊎ (approach_end ended_at ≤ now)
-  pub fresh : table.is_strict ≡ true → HasFreshReports now route ended_at
 
 -- A release is over: the approach time has passed since its clock.
 abbrev pub IsReleaseOver : ℕ → RouteState → Type 0

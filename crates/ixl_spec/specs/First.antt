@@ -35,7 +35,7 @@ pub record Beginning : Type 0 where
 abbrev pub client_of : Protocol → Site → Beginning → List ℕ → ℕ → List (List ℕ) → ClientState
 client_of protocol site begins name id objects =
     new_client (identity_of role.Client (names_of site id))
-    (record { protocol = protocol; version = telegram_version site; own_name = site.station.name; name = name; objects = objects; is_strict = site.station.trains })
+    (record { protocol = protocol; version = telegram_version site; own_name = site.station.name; name = name; objects = objects })
     begins.first begins.clock
 
 abbrev pub new_known_signal_of : Site → Beginning → Signal → KnownSignalState
@@ -61,7 +61,7 @@ new_detector_of site begins detector = record {
 }
 
 abbrev pub new_route_of : Row → RouteState
-new_route_of row = record { phase = phase.Free; cancelled = false; passage = passage_after (length row.sections) []; approached = false; released = None; clear_since = None }
+new_route_of row = record { phase = phase.Free; cancelled = false; passage = passage_after (length row.sections) []; approached = false; released = None }
 
 -- no route is set, nothing is closed, and every link is in no connection
 unfoldable pub new_ixl : Site → Table → Beginning → IxlState

@@ -5,7 +5,6 @@ use Rattle.std.specs.FinSet.{contains}
 use Rattle.closings.specs.sci_telegram.declared.message.Aspect.TheVariants as aspects
 use Rattle.release.specs.Approach.{approach_end, is_due}
 use Rattle.release.specs.Passage.{PassageState, is_freeable, passage_after}
-use Rattle.release.specs.Reports.{have_come, is_clear_long}
 use Rattle.ixl_spec.specs.Table.{Need, Row, Table, at}
 use Rattle.ixl_spec.specs.State.{IxlState, RouteState}
 use Rattle.ixl_spec.specs.View.{all_clear, all_known, is_approach_clear, is_at_known_stop, is_clear, is_held_with_authority, is_known, is_point_available, is_signal_ready}
@@ -95,17 +94,12 @@ abbrev pub is_release_over : ℕ → Option ℕ → Bool
 is_release_over now None = false
 is_release_over now (Some clock) = nat_le (approach_end clock) now
 
--- Where trains are kept apart, a route waits for fresh reports: of what a train did before its authority ended, and of what its
--- sections saw before they were clear.
-abbrev pub is_fresh : ℕ → Table → RouteState → ℕ → Bool
-is_fresh now table route ended_at = not table.is_strict || (have_come ended_at now && is_clear_long now route.clear_since)
-
--- without authority in this setting at known stop; else once authority has ended, where no train came, the approach lets it
--- go and reports are fresh, or where its release is over, whatever was reported of its sections
+-- without authority in this setting at known stop; else once authority has ended, where no train came and the approach
+-- lets it go, or where its release is over, whatever was reported of its sections
 abbrev pub frees_cancelled : ℕ → Table → IxlState → Row → RouteState → Phase → Bool
 frees_cancelled now table ixl row route phase.Waiting = is_at_known_stop now ixl row.entry
 frees_cancelled now table ixl row route (phase.Ended clock done) =
-    (none_seen (length row.sections) route.passage && all_clear table ixl row.sections && is_due route.approached clock now && is_fresh now table route clock)
+    (none_seen (length row.sections) route.passage && all_clear table ixl row.sections && is_due route.approached clock now)
     || is_release_over now route.released
 frees_cancelled now table ixl row route _ = false
 

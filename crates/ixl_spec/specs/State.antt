@@ -17,9 +17,6 @@ pub record RouteState : Type 0 where
   pub approached : Bool
   -- the clock reading at which it was released in its last setting, if it was
   pub released : Option ℕ
-  -- since which clock reading all its sections are clear, without a break, if they are: the reading of the first such step
-  -- after authority was given. It is noted where trains are kept apart.
-  pub clear_since : Option ℕ
 
 pub record KnownSignalState : Type 0 where
   pub client : ClientState

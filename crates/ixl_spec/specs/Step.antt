@@ -1,6 +1,6 @@
--- A step of an interlocking: the clock, links that aren't caught up any more, the input, what is seen of routes with authority, the six
--- rules, and on a tick each link's.
-use Rattle.std.specs.Prelude.{ℕ, suc, ◌==◌, ◌&&◌, ◌||◌, not, Bool, true, false, List, [], ◌∷◌, ◌++◌, length, map, Option, Some, None, slice_get, Result, Ok, Err, if◌then◌else◌}
+-- A step of an interlocking: the clock, the input, what is seen of routes with authority, the six rules, and on a tick
+-- each link's.
+use Rattle.std.specs.Prelude.{ℕ, suc, ◌==◌, ◌||◌, not, Bool, true, false, List, [], ◌∷◌, ◌++◌, length, map, Option, Some, None, slice_get, Result, Ok, Err, if◌then◌else◌}
 use Rattle.std.specs.FinSet.{contains, insert, remove}
 use Rattle.std.specs.List.{position}
 use Rattle.closings.specs.control_table.bit_row.Places.{Places}
@@ -17,16 +17,15 @@ use Rattle.closings.specs.sci_telegram.declared.message.Position.TheVariants as 
 use Rattle.closings.specs.sci_telegram.declared.message.Side.{Side}
 use Rattle.closings.specs.sci_telegram.declared.message.Side.TheVariants as sides
 use Rattle.release.specs.Passage.{after_look}
-use Rattle.release.specs.Reports.{clear_since_after}
 use Rattle.ixl_client.specs.Client.{ClientState, is_ready}
 use Rattle.ixl_client.specs.ClientSoFar.{begun}
-use Rattle.ixl_client.specs.Step.{clocked, closed_behind, closing_behind, hearing, ticking}
+use Rattle.ixl_client.specs.Step.{clocked, hearing, ticking}
 use Rattle.ixl_client.specs.declared.indication.Indication.{Indication}
 use Rattle.ixl_client.specs.declared.indication.ObjectState.{ObjectState}
 use Rattle.ixl_client.specs.declared.indication.ObjectState.TheVariants as states
 use Rattle.ixl_spec.specs.Table.{Row, Table}
 use Rattle.ixl_spec.specs.State.{KnownDetectorState, IxlState, KnownSignalState, RouteState, KnownPointState}
-use Rattle.ixl_spec.specs.View.{all_clear, is_approach_clear, place_in, was_authorised}
+use Rattle.ixl_spec.specs.View.{is_approach_clear, place_in, was_authorised}
 use Rattle.ixl_spec.specs.StepSoFar.{Node, Signal, Point, Detector, StepSoFar, along, at_route, detector_after, known_signal_after, noted, over, known_point_after, with_detector, with_known_signal, with_one, with_route, with_known_point}
 use Rattle.ixl_spec.specs.Rules.{count, is_proceeding, is_withdrawn, ruled}
 use Rattle.ixl_spec.specs.Commands.{commanded_by, moved_at_once, refusal}
@@ -49,55 +48,6 @@ all_clocked now ixl = record ixl {
   known_signals = map (clocked_known_signal now) ixl.known_signals;
   known_points = map (clocked_known_point now) ixl.known_points;
   detectors = map (clocked_detector now) ixl.detectors;
-}
-
--- ---- who isn't caught up
-
--- where trains are kept apart a link that isn't caught up any more closes
-unfoldable pub known_signal_closing : ℕ → ℕ → StepSoFar → StepSoFar
-known_signal_closing now signal part = with_one (slice_get part.ixl.known_signals signal) close part where
-  close : KnownSignalState → StepSoFar → StepSoFar
-  close known_signal part =
-      let done = closing_behind now (begun known_signal.client part.outbox)
-      in with_known_signal signal (known_signal_after known_signal.aspect known_signal.number known_signal.indicated done.client) (noted (Signal signal) done part)
-
-unfoldable pub known_point_closing : ℕ → ℕ → StepSoFar → StepSoFar
-known_point_closing now point part = with_one (slice_get part.ixl.known_points point) close part where
-  close : KnownPointState → StepSoFar → StepSoFar
-  close known_point part =
-      let done = closing_behind now (begun known_point.client part.outbox)
-      in with_known_point point (known_point_after known_point.side known_point.moved done.client) (noted (Point point) done part)
-
-unfoldable pub detector_closing : ℕ → ℕ → StepSoFar → StepSoFar
-detector_closing now place part = with_one (slice_get part.ixl.detectors place) close part where
-  close : KnownDetectorState → StepSoFar → StepSoFar
-  close detector part =
-      let done = closing_behind now (begun detector.client part.outbox)
-      in with_detector place (detector_after detector.occupied done.client) (noted (Detector place) done part)
-
--- in layout order: signals, points, detectors
-unfoldable pub all_closing : ℕ → StepSoFar → StepSoFar
-all_closing now part =
-    over (detector_closing now) (length part.ixl.detectors)
-    (over (known_point_closing now) (length part.ixl.known_points) (over (known_signal_closing now) (length part.ixl.known_signals) part))
-
--- what that makes of what is kept
-abbrev pub closed_known_signal : ℕ → KnownSignalState → KnownSignalState
-closed_known_signal now known_signal = known_signal_after known_signal.aspect known_signal.number known_signal.indicated (closed_behind now known_signal.client)
-
-abbrev pub closed_known_point : ℕ → KnownPointState → KnownPointState
-closed_known_point now known_point = known_point_after known_point.side known_point.moved (closed_behind now known_point.client)
-
-abbrev pub closed_detector : ℕ → KnownDetectorState → KnownDetectorState
-closed_detector now detector = detector_after detector.occupied (closed_behind now detector.client)
-
--- the interlocking as the input of a step finds it, by which requests are judged: once the clock has acted, and each link that
--- isn't caught up any more is closed
-unfoldable pub as_found : ℕ → IxlState → IxlState
-as_found now ixl = record ixl {
-  known_signals = map (λ known_signal. closed_known_signal now (clocked_known_signal now known_signal)) ixl.known_signals;
-  known_points = map (λ known_point. closed_known_point now (clocked_known_point now known_point)) ixl.known_points;
-  detectors = map (λ detector. closed_detector now (clocked_detector now detector)) ixl.detectors;
 }
 
 -- ---- what is heard
@@ -202,13 +152,6 @@ watching table number = at_route table number (λ row route part.
     then with_route number (λ old. record old { approached = old.approached || not (is_approach_clear table part.ixl row) }) part
     else part)
 
--- where trains are kept apart, a route that was given authority notes since when its sections are clear
-unfoldable pub noting : ℕ → Table → ℕ → StepSoFar → StepSoFar
-noting now table number = at_route table number (λ row route part.
-    if table.is_strict && was_authorised route.phase
-    then with_route number (λ old. record old { clear_since = clear_since_after now (all_clear table part.ixl row.sections) old.clear_since }) part
-    else part)
-
 -- ---- the input
 
 pub data Input : Type 0 where
@@ -292,9 +235,9 @@ ticked now _ part = part
 
 unfoldable pub stepped : ℕ → Table → Key → Input → StepSoFar → StepSoFar
 stepped now table key input part =
-    let begun = all_closing now (record part { ixl = all_clocked now part.ixl })
+    let begun = record part { ixl = all_clocked now part.ixl }
     in let heard = given now table key input begun
-    in let seen = over (noting now table) (count table) (over (watching table) (count table) heard)
+    in let seen = over (watching table) (count table) heard
     in ticked now input (ruled now table seen)
 
 -- ---- the answer
@@ -333,5 +276,5 @@ answer_by (Some refusal) = Refused refusal
 
 unfoldable pub reply : ℕ → Table → Key → Input → IxlState → Reply
 reply now table key Tick ixl = Ticked
-reply now table key (Datagram bytes) ixl = Received (verdict_of now bytes (reading key bytes) (as_found now ixl))
-reply now table key (Commands command) ixl = answer_by (refusal now table command (as_found now ixl))
+reply now table key (Datagram bytes) ixl = Received (verdict_of now bytes (reading key bytes) (all_clocked now ixl))
+reply now table key (Commands command) ixl = answer_by (refusal now table command (all_clocked now ixl))

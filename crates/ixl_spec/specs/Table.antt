@@ -34,8 +34,6 @@ pub record Table : Type 0 where
   pub reporters : List (ℕ × ℕ)
   -- the sections of each detector, in its own order
   pub detectors : List (List ℕ)
-  -- trains are kept apart: a cancelled route waits for fresh reports
-  pub is_strict : Bool
 
 -- the control table of a site
 pub record SitedTable : Type 0 where

@@ -2,7 +2,6 @@
 //! the field.
 #![tactic(auto)]
 
-mod caught_up_laws;
 mod command;
 mod just_made;
 mod key;
@@ -10,7 +9,6 @@ mod laws;
 mod operation_laws;
 mod phase;
 
-pub use caught_up_laws::{nothing_is_noted_without_need, the_input_finds_what_is_caught_up};
 pub use command::{Command, HOLD_TIME, Refusal};
 pub use just_made::new_interlockings_hold;
 pub use key::key_of;

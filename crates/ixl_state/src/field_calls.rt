@@ -4,7 +4,7 @@ ghost use Rattle.std.specs.Prelude.{◌≡◌, ◌↔◌, ◌+◌, ◌<◌, leng
 ghost use Rattle.ixl_spec.specs.rasta_core.Calls.{receiving};
 ghost use Rattle.ixl_spec.specs.rasta_core.Outbox.{HasRoomFor};
 ghost use Rattle.ixl_spec.specs.StepSoFar.{giving_aspect, giving_move};
-ghost use Rattle.ixl_spec.specs.Step.{Tick, all_clocked, all_closing, known_signal_hearing, known_point_hearing, ticked};
+ghost use Rattle.ixl_spec.specs.Step.{Tick, all_clocked, known_signal_hearing, known_point_hearing, ticked};
 ghost use Rattle.ixl_known.specs.Nodes.{AreHeardBy};
 ghost use Rattle.ixl_known.specs.Field.{detector_hearing_alone};
 ghost use Rattle.ixl_state.specs.State.{AllAt, Goes, MayStepAll};
@@ -28,16 +28,6 @@ impl State {
         ensures clock { AllAt now self.new }
     {
         self.field.settle(now);
-    }
-
-    /// Where trains are kept apart, each link that isn't caught up any more closes.
-    pub fn close_behind(&mut self, now: Millis, outbox: &mut Outbox)
-        requires clock { AllAt now self.old }
-        requires room { HasRoomFor (24 + 80) outbox.old }
-        ensures { Goes now 80 (all_closing now) self.old outbox.old self.new outbox.new }
-    {
-        self.table.names_what_is_there();
-        self.field.close_behind(now, outbox);
     }
 
     /// A tick of every link: signals, points, detectors.

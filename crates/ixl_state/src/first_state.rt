@@ -49,7 +49,6 @@ fn client_of(
         own_name: station.name,
         name,
         objects,
-        is_strict: station.trains,
     };
     let key = key_of(table.layout());
     Client::new(alloc, station.id, id, key, peer, start)

@@ -6,7 +6,6 @@ ghost use Rattle.ixl_spec.specs.Commands.{released_at, route_set};
 ghost use Rattle.ixl_spec.specs.Rules.{come_to, freed, one_freed};
 ghost use Rattle.ixl_spec.specs.State.{RouteState};
 ghost use Rattle.ixl_spec.specs.Step.{route_looks};
-ghost use Rattle.release.specs.Reports.{clear_since_after};
 ghost use Rattle.ixl_spec.specs.View.{first_blocking, is_set, place_in};
 ghost use Rattle.ixl_spec.specs.declared.phase.Phase.TheVariants as phase;
 ghost use Rattle.ixl_state.specs.State.{AtRoute, route_changed};
@@ -154,15 +153,6 @@ impl State {
         ensures { self.new ≡ route_changed (λ old. record old { approached = old.approached || not is_approach_clear }) number self.old }
     {
         let route = self.route(number).watches(is_approach_clear);
-        self.keep(number, route);
-    }
-
-    /// It notes at this clock whether its sections are clear.
-    pub fn note(&mut self, number: usize, now: Millis, are_clear: bool)
-        requires there { number < length self.old.sited.table.rows }
-        ensures { self.new ≡ route_changed (λ old. record old { clear_since = clear_since_after now are_clear old.clear_since }) number self.old }
-    {
-        let route = self.route(number).notes(now, are_clear);
         self.keep(number, route);
     }
 

@@ -5,13 +5,12 @@ ghost use Rattle.release.specs.Passage.{passage_after};
 ghost use Rattle.ixl_spec.specs.Commands.{is_ended, released_at, set_anew};
 ghost use Rattle.ixl_spec.specs.Rules.{come_to, freed};
 ghost use Rattle.ixl_spec.specs.Step.{route_looks};
-ghost use Rattle.release.specs.Reports.{clear_since_after};
 ghost use Rattle.ixl_spec.specs.Table.{Row};
 ghost use Rattle.ixl_spec.specs.View.{freed_sections, has_authority, is_set, place_in, was_authorised};
 ghost use Rattle.ixl_spec.specs.declared.phase.Phase.TheVariants as phase;
 
 use ixl_spec::{Millis, Phase};
-use release::{Approach, Passage, clear_since_after};
+use release::{Approach, Passage};
 use std::marker::Model;
 
 /// How far a route is, and what was seen of it since it was given authority.
@@ -23,8 +22,6 @@ pub struct Route {
     approach: Approach,
     /// The clock reading at which it was released in its last setting.
     released: Option<Millis>,
-    /// Since which clock reading all its sections are clear, without a break, as far as it was noted.
-    clear_since: Option<Millis>,
 }
 
 impl Model for Route {
@@ -36,9 +33,9 @@ impl Model for Route {
 
     ghost coded = { Prim.hlevel (codes, places_code) };
 
-    ghost view = { λ r. record { phase = r.phase; cancelled = r.cancelled; passage = r.passage; approached = r.approach; released = r.released; clear_since = r.clear_since } };
+    ghost view = { λ r. record { phase = r.phase; cancelled = r.cancelled; passage = r.passage; approached = r.approach; released = r.released } };
 
-    ghost inverse = { λ s. record { phase = s.phase; cancelled = s.cancelled; passage = s.passage; approach = s.approached; released = s.released; clear_since = s.clear_since } };
+    ghost inverse = { λ s. record { phase = s.phase; cancelled = s.cancelled; passage = s.passage; approach = s.approached; released = s.released } };
 }
 
 impl Route {
@@ -47,7 +44,7 @@ impl Route {
     pub(crate) fn new(sections: usize) -> Route
         requires some { 1 ≤ sections }
         requires within { sections ≤ 64 }
-        ensures { result ≡ record { phase = phase.Free; cancelled = false; passage = passage_after sections []; approached = false; released = None; clear_since = None } }
+        ensures { result ≡ record { phase = phase.Free; cancelled = false; passage = passage_after sections []; approached = false; released = None } }
     {
         Route {
             phase: Phase::Free,
@@ -55,7 +52,6 @@ impl Route {
             passage: Passage::new(sections),
             approach: Approach::new(),
             released: None,
-            clear_since: None,
         }
     }
 
@@ -118,13 +114,6 @@ impl Route {
         self.released
     }
 
-    /// Since which clock reading all its sections are clear, without a break, as far as it was noted.
-    pub fn clear_since(self) -> Option<Millis>
-        ensures { result ≡ self.clear_since }
-    {
-        self.clear_since
-    }
-
     /// What was seen of its sections since it was given authority.
     pub fn passage(self) -> Passage
         ensures { result ≡ self.passage }
@@ -165,7 +154,6 @@ impl Route {
             phase: Phase::Waiting,
             cancelled: false,
             released: None,
-            clear_since: None,
             ..self
         }
     }
@@ -190,16 +178,6 @@ impl Route {
         }
     }
 
-    /// It notes at this clock whether its sections are clear.
-    pub(crate) fn notes(self, now: Millis, are_clear: bool) -> Route
-        ensures { result ≡ record self { clear_since = clear_since_after now are_clear self.clear_since } }
-    {
-        Route {
-            clear_since: clear_since_after(now, are_clear, self.clear_since),
-            ..self
-        }
-    }
-
     /// It is given authority: its passage and its approach are watched from here on.
     #[tactic(auto, unfolding(release::specs::Approach::approach_after))]
     pub(crate) fn authorised(self, is_approach_clear: bool) -> Route
@@ -215,7 +193,6 @@ impl Route {
             passage,
             approach,
             released: self.released,
-            clear_since: self.clear_since,
         }
     }
 

@@ -69,13 +69,12 @@ pub record AreReporters (l : Site) (reporters : List (ℕ × ℕ)) : Type 0 wher
   pub their : (section : ℕ) (reporter : ℕ × ℕ) → slice_get reporters section ≡ Some reporter → IsReportedIn l.detectors section reporter
 
 -- A table is that of a site: a row for each route, in their order, the section of each point, the place at which each
--- section is reported, the sections of each detector, and whether trains are kept apart.
+-- section is reported, and the sections of each detector.
 pub record IsTableOf (l : Site) (table : Table) : Type 0 where
   pub rows : AreRows l table.rows
   pub point_sections : map as_section table.point_sections ≡ map (λ point. point.section) l.points
   pub reporters : AreReporters l table.reporters
   pub detectors : map (λ sections. map as_section sections) table.detectors ≡ map (λ detector. detector.sections) l.detectors
-  pub is_strict : table.is_strict ≡ l.station.trains
 
 -- ---- limits
 

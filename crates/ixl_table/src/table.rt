@@ -52,7 +52,6 @@ impl Model for Table {
         point_sections = t.point_sections.items;
         reporters = t.reporters.items;
         detectors = map (λ sections. sections.items) t.detectors.items;
-        is_strict = t.checked.station.trains;
       };
     } };
 
@@ -61,7 +60,6 @@ impl Model for Table {
       point_sections = t.point_sections.items;
       reporters = t.reporters.items;
       detectors = map (λ sections. sections.items) t.detectors.items;
-      is_strict = t.checked.station.trains;
     }) };
 }
 
@@ -134,13 +132,6 @@ impl Table {
         ensures station { IsStation self.now.site }
     {
         self.checked();
-    }
-
-    /// Whether trains are kept apart.
-    pub fn is_strict(&self) -> bool
-        ensures { result ≡ self.now.table.is_strict }
-    {
-        self.checked.layout().station().trains
     }
 
     /// A row for each route.

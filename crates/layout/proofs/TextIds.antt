@@ -18,7 +18,7 @@ use Rattle.layout_text.specs.declared.entries.WrittenSignal.{WrittenSignal}
 use Rattle.layout_text.specs.Written.{DetectorText, RouteText, LayoutText}
 use Rattle.layout_text.specs.FirstFault.{Read}
 use Rattle.layout_text.specs.Values.{field_at, text_at, table_at, name_at, id_of, aspect_at, route_aspect}
-use Rattle.layout_text.specs.Text.{key_place, name_field, id_field, port_field, names_field, ports_field, sides_field, names_at, sides_at, list_or_empty, aspect_or_proceed, key_or_none, true_or_false, station_at, track_at, point_at, joint_at, signal_at, detector_at, route_at, items_at, entries_at, station_in, text_of}
+use Rattle.layout_text.specs.Text.{key_place, name_field, id_field, port_field, names_field, ports_field, sides_field, names_at, sides_at, list_or_empty, aspect_or_proceed, key_or_none, station_at, track_at, point_at, joint_at, signal_at, detector_at, route_at, items_at, entries_at, station_in, text_of}
 use Rattle.layout.specs.Station.{IsNodeId}
 use Rattle.layout.proofs.OnceLemmas.{came_from, same_ok}
 use Rattle.layout.proofs.Steps.{le-decides, passed, each-all}
@@ -56,10 +56,9 @@ station-node place d s h =
     let fields = came_from (table_at place d) _ s h in
     let name = came_from (name_field (codes "name") place fields.0) _ s fields.2 in
     let id = came_from (id_field (codes "id") place fields.0) _ s name.2 in
-    let key = came_from (key_or_none place (get_member (codes "key") fields.0)) _ s id.2 in
-    let trains = came_from (true_or_false place (get_member (codes "trains") fields.0)) (λ trains. Ok (record { name = name.0; id = id.0; key = key.0; trains = trains })) s key.2 in
-    let made : Station = record { name = name.0; id = id.0; key = key.0; trains = trains.0 } in
-    subst (λ s. IsNodeId s.id) (same_ok made s trains.2) (id-field-node (codes "id") place fields.0 id.0 id.1)
+    let key = came_from (key_or_none place (get_member (codes "key") fields.0)) (λ key. Ok (record { name = name.0; id = id.0; key = key })) s id.2 in
+    let made : Station = record { name = name.0; id = id.0; key = key.0 } in
+    subst (λ s. IsNodeId s.id) (same_ok made s key.2) (id-field-node (codes "id") place fields.0 id.0 id.1)
 
 point-node : (place : Place) (d : Data) (p : WrittenPoint) → Unit {0} → point_at place d ≡ Ok p → IsNodeId p.id
 unfolding point_at

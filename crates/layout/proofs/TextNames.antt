@@ -16,7 +16,7 @@ use Rattle.layout_text.specs.declared.entries.WrittenPoint.{WrittenPoint}
 use Rattle.layout_text.specs.declared.entries.WrittenSignal.{WrittenSignal}
 use Rattle.layout_text.specs.Written.{DetectorText, RouteText, LayoutText}
 use Rattle.layout_text.specs.Values.{field_at, text_at, table_at, is_name, name_of, name_at}
-use Rattle.layout_text.specs.Text.{key_place, name_field, id_field, port_field, names_field, ports_field, sides_field, names_at, sides_at, list_or_empty, aspect_or_proceed, key_or_none, true_or_false, station_at, track_at, point_at, joint_at, signal_at, detector_at, route_at, entries_at, station_in, text_of}
+use Rattle.layout_text.specs.Text.{key_place, name_field, id_field, port_field, names_field, ports_field, sides_field, names_at, sides_at, list_or_empty, aspect_or_proceed, key_or_none, station_at, track_at, point_at, joint_at, signal_at, detector_at, route_at, entries_at, station_in, text_of}
 use Rattle.layout.proofs.OnceLemmas.{came_from, same_ok}
 use Rattle.layout.proofs.Steps.{le-decides, passed}
 use Rattle.layout.proofs.TextIds.{entries-node}
@@ -55,10 +55,9 @@ station-name place d s h =
     let fields = came_from (table_at place d) _ s h in
     let name = came_from (name_field (codes "name") place fields.0) _ s fields.2 in
     let id = came_from (id_field (codes "id") place fields.0) _ s name.2 in
-    let key = came_from (key_or_none place (get_member (codes "key") fields.0)) _ s id.2 in
-    let trains = came_from (true_or_false place (get_member (codes "trains") fields.0)) (λ trains. Ok (record { name = name.0; id = id.0; key = key.0; trains = trains })) s key.2 in
-    let made : Station = record { name = name.0; id = id.0; key = key.0; trains = trains.0 } in
-    subst (λ s. IsName s.name) (same_ok made s trains.2) (name-field-name (codes "name") place fields.0 name.0 name.1)
+    let key = came_from (key_or_none place (get_member (codes "key") fields.0)) (λ key. Ok (record { name = name.0; id = id.0; key = key })) s id.2 in
+    let made : Station = record { name = name.0; id = id.0; key = key.0 } in
+    subst (λ s. IsName s.name) (same_ok made s key.2) (name-field-name (codes "name") place fields.0 name.0 name.1)
 
 track-name : (place : Place) (d : Data) (t : WrittenTrack) → Unit {0} → track_at place d ≡ Ok t → IsName t.name
 unfolding track_at

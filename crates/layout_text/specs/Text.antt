@@ -1,5 +1,5 @@
 -- What the text of a layout writes: the tests for missing keys and wrong kinds, in reading order.
-use Rattle.std.specs.Prelude.{ℕ, Bool, false, List, [], ◌∷◌, codes, Option, Some, None, Ok, Err}
+use Rattle.std.specs.Prelude.{ℕ, List, [], ◌∷◌, codes, Option, Some, None, Ok, Err}
 use Rattle.toml.specs.Data.{Data, Members, no_members, member, get_member}
 use Rattle.sci_telegram.specs.declared.message.Aspect.{Aspect}
 use Rattle.sci_telegram.specs.declared.message.Aspect.TheVariants.{Proceed}
@@ -15,7 +15,7 @@ use Rattle.layout_text.specs.declared.entries.WrittenPoint.{WrittenPoint}
 use Rattle.layout_text.specs.declared.entries.WrittenJoint.{WrittenJoint}
 use Rattle.layout_text.specs.declared.entries.WrittenSignal.{WrittenSignal}
 use Rattle.layout_text.specs.FirstFault.{Read, ◌>>=◌, each_of, all_of}
-use Rattle.layout_text.specs.Values.{field_at, array_at, table_at, name_of, name_at, id_at, port_at, side_at, aspect_at, boolean_at, key_at}
+use Rattle.layout_text.specs.Values.{field_at, array_at, table_at, name_of, name_at, id_at, port_at, side_at, aspect_at, key_at}
 use Rattle.layout_text.specs.Written.{DetectorText, RouteText, LayoutText}
 
 -- ---- lists inside an entry, all at the place of the entry
@@ -61,11 +61,6 @@ abbrev pub key_or_none : Place → Option Data → Read (Option (List ℕ))
 key_or_none place None = Ok None
 key_or_none place (Some d) = key_at place d >>= λ key. Ok (Some key)
 
--- a boolean that is left out is false
-abbrev pub true_or_false : Place → Option Data → Read Bool
-true_or_false place None = Ok false
-true_or_false place (Some d) = boolean_at place d
-
 -- ---- fields that have to be there
 
 unfoldable pub name_field : List ℕ → Place → Members → Read (List ℕ)
@@ -94,8 +89,7 @@ station_at place d = do
   name ← name_field (codes "name") place fields
   id ← id_field (codes "id") place fields
   key ← key_or_none place (get_member (codes "key") fields)
-  trains ← true_or_false place (get_member (codes "trains") fields)
-  Ok (record { name = name; id = id; key = key; trains = trains })
+  Ok (record { name = name; id = id; key = key })
 
 unfoldable pub track_at : Place → Data → Read WrittenTrack
 track_at place d = do

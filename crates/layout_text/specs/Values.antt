@@ -6,7 +6,7 @@ use Rattle.hex.specs.declared.error.FromHexError.{FromHexError}
 use Rattle.hex.specs.Hex.{decode_sized}
 use Rattle.std.specs.List.{list_all, list_any, before_first, after_first}
 use Rattle.std.specs.Str.{bytes_eq}
-use Rattle.toml.specs.Data.{Data, Items, no_items, item, Members, get_member, as_str, as_array, as_table, as_integer, as_bool}
+use Rattle.toml.specs.Data.{Data, Items, no_items, item, Members, get_member, as_str, as_array, as_table, as_integer}
 use Rattle.sci_telegram.specs.Names.{is_name_byte}
 use Rattle.sci_telegram.specs.Words.{aspect_of_word, side_of_word}
 use Rattle.layout_text.specs.declared.fault.LayoutFault.TheVariants.{MissingKey, WrongKind}
@@ -103,10 +103,6 @@ unfoldable pub aspect_at : Place → Data → Read Aspect
 aspect_at place d = do
   word ← text_at place d
   ok_or (route_aspect (aspect_of_word word)) (WrongKind place)
-
--- `true` or `false`
-abbrev pub boolean_at : Place → Data → Read Bool
-boolean_at place d = ok_or (as_bool d) (WrongKind place)
 
 -- a key is 32 hexadecimal digits: four registers, each with its low-order byte first
 abbrev pub register : List ℕ → ℕ → ℕ

@@ -40,8 +40,6 @@ pub struct Station {
     pub id: u32,
     /// The four registers from which the safety code starts, if the text gives them.
     pub key: Option<[u32; 4]>,
-    /// Whether its trains are kept apart: who isn't caught up closes its link, and a cancelled route waits for fresh reports.
-    pub trains: bool,
 }
 
 /// A track: its name and its section.

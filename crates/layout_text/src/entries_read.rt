@@ -5,7 +5,7 @@ ghost use Rattle.toml.specs.Data.{get_member};
 ghost use Rattle.toml.specs.View.{view, table_view};
 ghost use Rattle.layout_text.specs.FirstFault.{Gives};
 ghost use Rattle.layout_text.specs.Values.{name_at};
-ghost use Rattle.layout_text.specs.Text.{name_field, id_field, port_field, names_field, ports_field, sides_field, names_at, ports_at, sides_of, sides_at, list_or_empty, aspect_or_proceed, key_or_none, true_or_false, station_at, track_at, point_at, joint_at, signal_at, detector_at, route_at};
+ghost use Rattle.layout_text.specs.Text.{name_field, id_field, port_field, names_field, ports_field, sides_field, names_at, ports_at, sides_of, sides_at, list_or_empty, aspect_or_proceed, key_or_none, station_at, track_at, point_at, joint_at, signal_at, detector_at, route_at};
 
 use crate::entries::{
     PortName, Station, WrittenDetector, WrittenJoint, WrittenPoint, WrittenRoute, WrittenSignal,
@@ -13,7 +13,7 @@ use crate::entries::{
 };
 use crate::fault::{LayoutFault, Place};
 use crate::steps::{Step, all};
-use crate::values::{array, aspect, boolean, field, id, key, name, name_in, port, side, table};
+use crate::values::{array, aspect, field, id, key, name, name_in, port, side, table};
 use sci_telegram::{Aspect, Name, Side};
 use std::alloc::Global;
 use toml::{Table, Value};
@@ -142,16 +142,6 @@ fn optional_key(value: Option<&Value>, place: Place) -> Result<Option<[u32; 4]>,
     }
 }
 
-/// A boolean that may be left out.
-fn optional_boolean(value: Option<&Value>, place: Place) -> Result<bool, LayoutFault>
-    ensures { Gives (λ b. b) result (true_or_false place (option_map (λ v. view v.now) value.entry)) }
-{
-    match value {
-        Some(value) => boolean(value, place),
-        None => Ok(false),
-    }
-}
-
 /// The value under a key, if there is one.
 fn optional_field<'a>(table: &'a Table, key: &str) -> Option<&'a Value>
     ensures { option_map (λ v. view v.now) result ≡ get_member key.now (table_view table.now) }
@@ -237,13 +227,7 @@ pub(crate) fn station(value: &Value, place: Place) -> Result<Station, LayoutFaul
     let name = name_field(fields, "name", place)?;
     let id = id_field(fields, "id", place)?;
     let key = optional_key(optional_field(fields, "key"), place)?;
-    let trains = optional_boolean(optional_field(fields, "trains"), place)?;
-    Ok(Station {
-        name,
-        id,
-        key,
-        trains,
-    })
+    Ok(Station { name, id, key })
 }
 
 /// Reads a track.

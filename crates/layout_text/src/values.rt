@@ -3,7 +3,7 @@
 ghost use Rattle.std.specs.Prelude.{◌≡◌, map};
 ghost use Rattle.toml.specs.View.{view, table_view};
 ghost use Rattle.layout_text.specs.FirstFault.{Gives};
-ghost use Rattle.layout_text.specs.Values.{field_at, text_at, array_at, table_at, name_of, name_at, id_at, end_of, port_of, port_at, side_at, aspect_at, boolean_at, key_of, key_at};
+ghost use Rattle.layout_text.specs.Values.{field_at, text_at, array_at, table_at, name_of, name_at, id_at, end_of, port_of, port_at, side_at, aspect_at, key_of, key_at};
 
 use crate::entries::{End, PortName};
 use crate::fault::{LayoutFault, Place};
@@ -145,13 +145,6 @@ pub(crate) fn aspect(value: &Value, place: Place) -> Result<Aspect, LayoutFault>
         None | Some(Aspect::Stop) => Err(LayoutFault::WrongKind(place)),
         Some(aspect) => Ok(aspect),
     }
-}
-
-/// A boolean: `true` or `false`.
-pub(crate) fn boolean(value: &Value, place: Place) -> Result<bool, LayoutFault>
-    ensures { Gives (λ b. b) result (boolean_at place (view value.now)) }
-{
-    value.as_bool().ok_or(LayoutFault::WrongKind(place))
 }
 
 /// How many bytes the four registers of a key have.

@@ -1,5 +1,5 @@
 -- What is closed stays so in each part of a step but in a close and an open.
-use Rattle.std.proofs.Common.{◌≡◌, ◌∙◌, ℕ, zero, suc, Bool, true, false, List, [], ◌∷◌, Option, Some, None, slice_get, length, ◌&&◌, ◌||◌, ap, refl, subst, sym, if◌then◌else◌}
+use Rattle.std.proofs.Common.{◌≡◌, ℕ, zero, suc, Bool, true, false, List, [], ◌∷◌, Option, Some, None, slice_get, length, ◌&&◌, ◌||◌, refl, if◌then◌else◌}
 use Rattle.simulator_spec.specs.sci_telegram.declared.message.Aspect.{Aspect}
 use Rattle.simulator_spec.specs.sci_telegram.declared.message.Aspect.TheVariants as aspects
 use Rattle.simulator_spec.specs.sci_telegram.declared.message.Side.{Side}
@@ -13,7 +13,7 @@ use Rattle.simulator_spec.specs.ixl_spec.Commands.{commanded_by, moved_at_once, 
 use Rattle.simulator_spec.specs.ixl_spec.Rules.{authorised, count, ending_authority, freeing_by_cancel, freeing_by_passage, freeing_next, frees_cancelled, frees_next, is_move_due, is_proceed_due, is_proceeding, is_stop_due, is_withdrawn, moving, moving_one, proceeding, repeated, ruled, withdrawing}
 use Rattle.simulator_spec.specs.ixl_spec.State.{IxlState, RouteState}
 use Rattle.simulator_spec.specs.ixl_spec.Step as ixl
-use Rattle.simulator_spec.specs.ixl_spec.Step.{all_clocked, all_closing, answer_by, as_found, detector_hearing, detector_ticking, given, known_point_hearing, known_point_ticking, known_signal_hearing, known_signal_ticking, looking, looking_by, looks, node_hearing, noting, occupied_heard, reply, stepped, ticked, watching}
+use Rattle.simulator_spec.specs.ixl_spec.Step.{all_clocked, answer_by, detector_hearing, detector_ticking, given, known_point_hearing, known_point_ticking, known_signal_hearing, known_signal_ticking, looking, looking_by, looks, node_hearing, occupied_heard, reply, stepped, ticked, watching}
 use Rattle.simulator_spec.specs.ixl_spec.StepSoFar.{Detector, Node, Point, Signal, StepSoFar, along, at_route, begun_with, detector_after, empty_outbox, giving_aspect, giving_move, noted, over, with_detector, with_one, with_route}
 use Rattle.simulator_spec.specs.ixl_spec.Table.{Need, Row, Table}
 use Rattle.simulator_spec.specs.ixl_spec.View.{is_at_known_stop, is_signal_ready, was_authorised}
@@ -110,10 +110,6 @@ module _ (closed : Closings) where
   unfolding watching
   watching_stays table number part is = at_stays table number _ part is (λ row route other also. either Stays (is_proceeding route.phase || is_withdrawn route.phase) _ _ also also)
 
-  noting_stays : (now : ℕ) (table : Table) (number : ℕ) (part : StepSoFar) → Stays part → Stays (noting now table number part)
-  unfolding noting
-  noting_stays now table number part is = at_stays table number _ part is (λ row route other also. either Stays (table.is_strict && was_authorised route.phase) _ _ also also)
-
   looking_by_stays : (section : ℕ) (occupied : Bool) (table : Table) (number : ℕ) (part : StepSoFar) → Stays part → Stays (looking_by section occupied table number part)
   unfolding looking_by
   looking_by_stays section occupied table number part is = at_stays table number _ part is (λ row route other also. either Stays (was_authorised route.phase) _ _ also also)
@@ -152,11 +148,8 @@ module _ (closed : Closings) where
       (over_stays (known_signal_ticking now) (signal_tick_stays now) (length part.ixl.known_signals) part is))
 
   -- behind its input nothing of a step changes it
-  behind_stays : (now : ℕ) (table : Table) (input : ixl.Input) (heard : StepSoFar) → Stays heard
-      → Stays (ticked now input (ruled now table (over (noting now table) (count table) (over (watching table) (count table) heard))))
-  behind_stays now table input heard is =
-      ticked_stays now input _ (ruled_stays now table _
-      (over_stays (noting now table) (noting_stays now table) (count table) _ (over_stays (watching table) (watching_stays table) (count table) heard is)))
+  behind_stays : (now : ℕ) (table : Table) (input : ixl.Input) (heard : StepSoFar) → Stays heard → Stays (ticked now input (ruled now table (over (watching table) (count table) heard)))
+  behind_stays now table input heard is = ticked_stays now input _ (ruled_stays now table _ (over_stays (watching table) (watching_stays table) (count table) heard is))
 
 -- what is closed by a close, by why it is refused
 close_obeyed : (now : ℕ) (named : Named) (part : StepSoFar) (cause : Option Refusal) → answer_by cause ≡ ixl.Accepted
@@ -165,18 +158,12 @@ unfolding moved_at_once obeyed
 close_obeyed now named part None is = refl
 close_obeyed now named part (Some refused) is = absurd (cc)
 
--- A close that is accepted closes what it names, and nothing after it in its step opens it again. In front of it neither the clock nor
--- the close of a link changes what is closed.
-pub close_taken : ((now : ℕ) (part : StepSoFar) → (all_closing now (record part { ixl = all_clocked now part.ixl })).ixl ≡ as_found now part.ixl)
-    → (now : ℕ) (table : Table) (key : Key) (named : Named) (state : IxlState) → reply now table key (ixl.Commands (commands.Close named)) state ≡ ixl.Accepted →
+-- A close that is accepted closes what it names, and nothing after it in its step opens it again.
+pub close_taken : (now : ℕ) (table : Table) (key : Key) (named : Named) (state : IxlState) → reply now table key (ixl.Commands (commands.Close named)) state ≡ ixl.Accepted →
     (stepped now table key (ixl.Commands (commands.Close named)) (begun_with state empty_outbox)).ixl.closed ≡ with_named state.closed named
-unfolding stepped given reply as_found
-close_taken found now table key named state accepted =
-    let start : StepSoFar = begun_with state empty_outbox in
-    let begun : StepSoFar = all_closing now (record start { ixl = all_clocked now state }) in
-    let begun_is : begun.ixl ≡ as_found now state = found now start in
-    let cause = refusal now table (commands.Close named) begun.ixl in
-    let answered : answer_by cause ≡ ixl.Accepted = subst (λ (kept : IxlState). answer_by (refusal now table (commands.Close named) kept) ≡ ixl.Accepted) (sym begun_is) accepted in
-    let heard : StepSoFar = moved_at_once now cause (commands.Close named) (record begun { ixl = commanded_by now cause (commands.Close named) begun.ixl }) in
-    behind_stays (with_named state.closed named) now table (ixl.Commands (commands.Close named)) heard
-    (close_obeyed now named begun cause answered ∙ ap (λ (kept : IxlState). with_named kept.closed named) begun_is)
+unfolding stepped given reply all_clocked
+close_taken now table key named state accepted =
+    let begun : StepSoFar = begun_with (all_clocked now state) empty_outbox in
+    let cause = refusal now table (commands.Close named) (all_clocked now state) in
+    let heard : StepSoFar = moved_at_once now cause (commands.Close named) (record begun { ixl = commanded_by now cause (commands.Close named) (all_clocked now state) }) in
+    behind_stays (with_named state.closed named) now table (ixl.Commands (commands.Close named)) heard (close_obeyed now named begun cause accepted)

@@ -3,4 +3,4 @@ unfoldable pub use Rattle.simulator_spec.specs.rasta_core.Calls.{created}
 unfoldable pub use Rattle.simulator_spec.specs.rasta_core.Outbox.{posted}
 unfoldable pub use Rattle.simulator_spec.specs.object_host.Host.{keeping}
 unfoldable pub use Rattle.simulator_spec.specs.object_host.Hosted.{new_host}
-unfoldable pub use Rattle.simulator_spec.specs.object_host.Step.{beating, given, going_on, host_step}
+unfoldable pub use Rattle.simulator_spec.specs.object_host.Step.{beating, given, host_step}

@@ -14,7 +14,6 @@ use Rattle.simulator_spec.specs.layout.Entries.{Site}
 use Rattle.simulator_spec.specs.layout.declared.ids.RouteId.{RouteId}
 use Rattle.simulator_spec.specs.ixl_spec.Step as ixl
 use Rattle.simulator_spec.specs.ixl_spec.State.{IxlState}
-use Rattle.simulator_spec.specs.ixl_spec.StepSoFar.{StepSoFar}
 use Rattle.simulator_spec.specs.ixl_spec.closings.declared.closed.Closings.{Closings}
 use Rattle.simulator_spec.specs.ixl_spec.closings.declared.thing.Named.{Named}
 use Rattle.simulator_spec.specs.ixl_spec.closings.declared.thing.Named.TheVariants.{One}
@@ -62,17 +61,16 @@ changed_told now kept input standing some other =
 
 -- ---- all that a close names is among what is to be kept
 
-pub close_wanted : ((now : ℕ) (part : StepSoFar) → (ixl.all_closing now (record part { ixl = ixl.all_clocked now part.ixl })).ixl ≡ ixl.as_found now part.ixl)
-    → ((c : Closings) (n : Named) (t : Thing) → IsClosed (with_named c n) t ↔ (Names n t ⊎ IsClosed c t)) → ((c d : Closings) (t : Thing) → IsClosed (either c d) t ↔ (IsClosed c t ⊎ IsClosed d t))
+pub close_wanted : ((c : Closings) (n : Named) (t : Thing) → IsClosed (with_named c n) t ↔ (Names n t ⊎ IsClosed c t)) → ((c d : Closings) (t : Thing) → IsClosed (either c d) t ↔ (IsClosed c t ⊎ IsClosed d t))
     → (now : ℕ) (named : Named) (node : InterlockingNode) → keeps_some node.keeping ≡ true → ixl.reply now node.table (key_of node.site) (ixl.Commands (command.Close named)) node.ixl ≡ ixl.Accepted
     → (t : Thing) → Names named t → IsClosed (wanted node.keeping node.table (ixl_step now (ixl.Commands (command.Close named)) node).ixl) t
-close_wanted found by_command by_either now named node some accepted t names = by node.keeping some
+close_wanted by_command by_either now named node some accepted t names = by node.keeping some
   where
     next : IxlState
     next = (ixl_step now (ixl.Commands (command.Close named)) node).ixl
 
     closed : IsClosed next.closed t
-    closed = subst (λ (c : Closings). IsClosed c t) (sym (close_taken found now node.table (key_of node.site) named node.ixl accepted)) ((by_command node.ixl.closed named t).1 (inl names))
+    closed = subst (λ (c : Closings). IsClosed c t) (sym (close_taken now node.table (key_of node.site) named node.ixl accepted)) ((by_command node.ixl.closed named t).1 (inl names))
 
     by : (of : Keeping) → keeps_some of ≡ true → IsClosed (wanted of node.table next) t
     by keeping.Nothing some = absurd (false≢true some)

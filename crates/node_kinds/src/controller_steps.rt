@@ -57,14 +57,7 @@ impl<C: Controller> SteppedHost<C> {
             peer_name: station.name,
             key: key_of(layout),
         };
-        let hosted = Hosted::new(
-            alloc,
-            parties,
-            start,
-            object,
-            table.version(),
-            station.trains,
-        )?;
+        let hosted = Hosted::new(alloc, parties, start, object, table.version())?;
         Ok(SteppedHost {
             hosted,
             reached: start.now,

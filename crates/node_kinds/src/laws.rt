@@ -25,10 +25,7 @@ ghost use Rattle.simulator_spec.specs.ixl_spec.declared.command.Command.TheVaria
 use crate::detector_node::DetectorNode;
 use crate::point_node::PointNode;
 use crate::signal_node::SignalNode;
-use ixl_state::ixl_spec::{
-    a_command_changes_what_it_names_alone, the_input_finds_what_is_caught_up,
-    what_either_closes_is_closed,
-};
+use ixl_state::ixl_spec::{a_command_changes_what_it_names_alone, what_either_closes_is_closed};
 use node_drive::NodeMachine;
 use node_drive::node_lines::closings::what_is_listed_is_there_and_closed;
 
@@ -81,5 +78,4 @@ pub fn closings_are_kept_before_they_are_told()
 {
     a_command_changes_what_it_names_alone();
     what_either_closes_is_closed();
-    the_input_finds_what_is_caught_up();
 }

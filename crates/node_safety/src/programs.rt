@@ -40,17 +40,16 @@ use node_kinds::simulator_spec::signal_ctl::Signal;
 use node_kinds::simulator_spec::tds_ctl::Detection;
 use simulator_node_laws::a_point_drives_as_its_last_line;
 
-/// A program that starts a controller by the names, the identities, the key and the version of a layout, and as strict as it says,
-/// starts a new node of it.
+/// A program that starts a controller by the names, the identities, the key and the version of a layout starts a new node of it.
 pub fn programs_start_new_nodes()
     ensures signals { (site : Site) (entry : SignalEntry) (first now : ℕ)
-        → new_host signal_behaviour (record { role = Server; own = entry.id; partner = site.station.id; key = key_of site }) entry.name site.station.name first now (record { lamp = new_lamp; owes = false }) (telegram_version site) site.station.trains
+        → new_host signal_behaviour (record { role = Server; own = entry.id; partner = site.station.id; key = key_of site }) entry.name site.station.name first now (record { lamp = new_lamp; owes = false }) (telegram_version site)
         ≡ new_signal site (record { clock = now; first = first }) entry }
     ensures points { (site : Site) (entry : PointEntry) (position : Position) (first now : ℕ)
-        → new_host point_behaviour (record { role = Server; own = entry.id; partner = site.station.id; key = key_of site }) entry.name site.station.name first now (made position) (telegram_version site) site.station.trains
+        → new_host point_behaviour (record { role = Server; own = entry.id; partner = site.station.id; key = key_of site }) entry.name site.station.name first now (made position) (telegram_version site)
         ≡ new_point site (record { clock = now; first = first }) position entry }
     ensures detectors { (site : Site) (entry : DetectorEntry) (sensed : List Occupancy) (first now : ℕ)
-        → new_host detection_behaviour (record { role = Server; own = entry.id; partner = site.station.id; key = key_of site }) entry.name site.station.name first now (map sections.made (zip (own_names site entry.sections) sensed)) (telegram_version site) site.station.trains
+        → new_host detection_behaviour (record { role = Server; own = entry.id; partner = site.station.id; key = key_of site }) entry.name site.station.name first now (map sections.made (zip (own_names site entry.sections) sensed)) (telegram_version site)
         ≡ detector_sensing site (record { clock = now; first = first }) sensed entry }
 {}
 

@@ -1,5 +1,5 @@
 -- What the object is told in a step.
-use Rattle.std.proofs.Common.{◌≡◌, ℕ, suc, zero, Bool, true, false, not, if◌then◌else◌, List, [], ◌∷◌, ◌++◌, append_assoc, refl, ap, sym, ◌∙◌}
+use Rattle.std.proofs.Common.{◌≡◌, ℕ, suc, zero, Bool, true, false, not, if◌then◌else◌, List, [], ◌∷◌, ◌++◌, append_assoc, refl, ap, sym, ◌∙◌, subst}
 use Rattle.std.specs.Prelude.{Option, Some, None, Result, Ok, Err, is_ok}
 use Rattle.std.proofs.lemmas.Bool.{true≢false, false≢true}
 use Rattle.std.proofs.lemmas.List.{append-nil}
@@ -9,16 +9,14 @@ use Rattle.sci_telegram.specs.declared.message.Message.{Message}
 use Rattle.sci_telegram.specs.declared.message.Message.TheVariants as message
 use Rattle.sci_telegram.specs.declared.telegram.Telegram.{Telegram}
 use Rattle.rasta_core.specs.State.{LinkState, is_open}
-use Rattle.rasta_core.specs.fault.SendFault.{SendFault}
-use Rattle.rasta_core.specs.reason.Reason.TheVariants as reason
 use Rattle.rasta_core.specs.Clock.{settled}
 use Rattle.rasta_core.specs.Calls.{answer_to_send, receiving}
 use Rattle.object_host.specs.Behaviour.{Behaviour}
 use Rattle.object_host.specs.Meaning.{meaning, commanding as to_object}
-use Rattle.object_host.specs.Host.{HostState, LinkCall, HostSoFar, Ticks, Closes, Sends, Receives, fallen, is_completed, keeping, silent, then_do}
-use Rattle.object_host.specs.Made.{ActsOn, AreOwn, IsMadeOf, call_made, calls_made, command_of, commands_of, items_taken, items_taken_by}
+use Rattle.object_host.specs.Host.{HostState, LinkCall, HostSoFar, Ticks, Closes, Sends, Receives, is_completed, keeping, silent, then_do}
+use Rattle.object_host.specs.Made.{ActsOn, AreOwn, IsMadeOf, IsOwn, call_made, calls_made, command_of, commands_of, items_taken, items_taken_by}
 use Rattle.object_host.specs.Made as made
-use Rattle.object_host.specs.Step.{acting, acting_all, after_refusal, beating, beginning, closes_when_refused, closing, closing_behind, following, found, given, goes_on, going_on, hearing, host_step, is_behind, is_admitted, most_owed, paid, paying, paying_first, posting, received, violating}
+use Rattle.object_host.specs.Step.{acting, acting_all, beating, beginning, following, given, goes_on, hearing, host_step, is_admitted, most_owed, paid, paying, paying_first, posting, received, violating}
 use Rattle.object_host.specs.declared.meaning.Meaning.{Meaning}
 use Rattle.object_host.specs.declared.meaning.Meaning.TheVariants as meanings
 use Rattle.object_host.specs.declared.input.Input.{Input}
@@ -28,7 +26,7 @@ use Rattle.object_host.specs.declared.stage.Stage.{Stage}
 use Rattle.object_host.specs.declared.stage.Stage.TheVariants as stage
 use Rattle.object_host.proofs.Between.{is_command, no_command}
 use Rattle.object_host.proofs.Closed.{closing_closed, closing_closes, sending_closed, ticking_closed}
-use Rattle.object_host.proofs.Made.{IsPart, acting_all_part, beating_part, closing_behind_part, fallen_link, found_made, given_made, made_then, paying_part}
+use Rattle.object_host.proofs.Made.{IsPart, acting_all_part, beating_part, begun_link, fallen_link, given_made, made_then, paying_part}
 
 -- own calls take nothing, and leave a closed link closed
 own_takes_nothing : (now : ℕ) (calls : List LinkCall) (link : LinkState) → AreOwn calls → items_taken now calls link ≡ []
@@ -103,7 +101,7 @@ data Fate {Object : Type 0} (item : List ℕ) (part : HostSoFar Object) : Type 0
 module _ {Object : Type 0} (does : Behaviour Object) where
   violating_refuses : (now : ℕ) (item : List ℕ) (host : HostState Object) → Fate item (violating now host)
   unfolding violating
-  violating_refuses now item host = refused refl refl (closing_closes now reason.State host.link)
+  violating_refuses now item host = refused refl refl (closing_closes now host.link)
 
   following_fate : (now : ℕ) (item : List ℕ) (telegram : Telegram) (c : Meaning) (host : HostState Object) → reading item ≡ Ok telegram →
       meaning telegram.message host.stage ≡ c → Fate item (following does now item telegram c host)
@@ -193,29 +191,6 @@ module _ {Object : Type 0} (does : Behaviour Object) where
     pub acts_on_none : part.acted ≡ []
     pub tells_none : part.told ≡ []
 
-  quiet_then : (first : HostSoFar Object) (next : HostState Object → HostSoFar Object) → IsQuiet first → IsQuiet (next first.host) → IsQuiet (then_do first next)
-  quiet_then first next one more = record {
-    acts_on_none = ap (λ xs. xs ++ (next first.host).acted) one.acts_on_none ∙ more.acts_on_none;
-    tells_none = ap (λ xs. xs ++ (next first.host).told) one.tells_none ∙ more.tells_none;
-  }
-
-  after_refusal_quiet : (now : ℕ) (answer : Result Unit SendFault) (host : HostState Object) → IsQuiet (after_refusal does now answer host)
-  unfolding after_refusal
-  after_refusal_quiet now answer host = cases (closes_when_refused does answer host) where
-    cases : (b : Bool) → IsQuiet (if b then closing now reason.Window host else silent host)
-    cases true = record { acts_on_none = refl; tells_none = refl }
-    cases false = record { acts_on_none = refl; tells_none = refl }
-
-  pub closing_behind_quiet : (now : ℕ) (host : HostState Object) → IsQuiet (closing_behind does now host)
-  unfolding closing_behind
-  closing_behind_quiet now host = cases (is_behind now host) where
-    closed : HostSoFar Object
-    closed = closing now reason.User host
-
-    cases : (b : Bool) → IsQuiet (if b then record closed { host = fallen does closed.host } else silent host)
-    cases true = record { acts_on_none = refl; tells_none = refl }
-    cases false = record { acts_on_none = refl; tells_none = refl }
-
   paying_first_quiet : (now : ℕ) (report : Option Report) (host : HostState Object) → IsQuiet (paying_first does now report host)
   unfolding posting
   paying_first_quiet now None host = record { acts_on_none = refl; tells_none = refl }
@@ -223,13 +198,16 @@ module _ {Object : Type 0} (does : Behaviour Object) where
     sent : HostSoFar Object
     sent = posting now report host
 
-    answer : Result Unit SendFault
-    answer = answer_to_send now host.link
-
-    cases : (b k : Bool) → IsQuiet (if not b then silent (paid does host) else if k then record sent { host = paid does sent.host } else then_do sent (after_refusal does now answer))
+    cases : (b k : Bool) → IsQuiet (if not b then silent (paid does host) else if k then record sent { host = paid does sent.host } else sent)
     cases false k = record { acts_on_none = refl; tells_none = refl }
     cases true true = record { acts_on_none = refl; tells_none = refl }
-    cases true false = quiet_then sent (after_refusal does now answer) (record { acts_on_none = refl; tells_none = refl }) (after_refusal_quiet now answer sent.host)
+    cases true false = record { acts_on_none = refl; tells_none = refl }
+
+  quiet_then : (first : HostSoFar Object) (next : HostState Object → HostSoFar Object) → IsQuiet first → IsQuiet (next first.host) → IsQuiet (then_do first next)
+  quiet_then first next one more = record {
+    acts_on_none = ap (λ xs. xs ++ (next first.host).acted) one.acts_on_none ∙ more.acts_on_none;
+    tells_none = ap (λ xs. xs ++ (next first.host).told) one.tells_none ∙ more.tells_none;
+  }
 
   pub paying_quiet : (now : ℕ) (more : ℕ) (host : HostState Object) → IsQuiet (paying does now more host)
   unfolding paying
@@ -272,41 +250,22 @@ module _ {Object : Type 0} (does : Behaviour Object) where
       cases opened false is = absurd (true≢false (sym opened ∙ ap (λ (l : LinkState). is_open l.phase) part.made.link_is
           ∙ own_closed now (next first.host).calls first.host.link part.own is))
 
-  going_on_acts : (now : ℕ) (input : Input) (host : HostState Object) → ActsOn (items_taken now (going_on does now input host).calls host.link) (going_on does now input host)
-  unfolding going_on keeping
-  going_on_acts now input host =
-      let heard = given does now input host
+  pub step_acts : (now : ℕ) (input : Input) (host : HostState Object) → ActsOn (items_taken now (host_step does now input host).calls (settled now host.link)) (host_step does now input host)
+  unfolding host_step keeping
+  step_acts now input host =
+      let begun = beginning does now host
+      in let heard = given does now input begun
       in let told = then_do heard (paying does now most_owed)
-      in let heard_made = given_made does now input host
+      in let heard_made = given_made does now input begun
       in let told_part = paying_part does now most_owed heard.host
-      in let acts_told = acts_then now host.link heard (paying does now most_owed) heard_made (given_acts now input host) told_part (paying_quiet now most_owed heard.host)
-      in let told_made = made_then now host.link heard (paying does now most_owed) heard_made told_part.made
-      in let acts = acts_then now host.link told (beating now input) told_made acts_told (beating_part does now input told.host) (beating_quiet now input told.host)
+      in let acts_told = acts_then now begun.link heard (paying does now most_owed) heard_made (given_acts now input begun) told_part (paying_quiet now most_owed heard.host)
+      in let told_made = made_then now begun.link heard (paying does now most_owed) heard_made told_part.made
+      in let acts = acts_then now begun.link told (beating now input) told_made acts_told (beating_part does now input told.host) (beating_quiet now input told.host)
       in let link_is = fallen_link does (then_do told (beating now input)).host
-      in record {
+      in subst (λ l. ActsOn (items_taken now (host_step does now input host).calls l) (host_step does now input host)) (begun_link does now host)
+      (record {
         dropped = acts.dropped;
         beginning = acts.beginning;
         whole = λ opened. acts.whole (sym (ap (λ (l : LinkState). is_open l.phase) link_is) ∙ opened);
         told = acts.told;
-      }
-
-  -- what acts on something, after a quiet part of own calls
-  acts_after : (now : ℕ) (link : LinkState) (first : HostSoFar Object) (next : HostState Object → HostSoFar Object) → IsMadeOf now link first → AreOwn first.calls → IsQuiet first →
-      ActsOn (items_taken now (next first.host).calls first.host.link) (next first.host) → ActsOn (items_taken now (then_do first next).calls link) (then_do first next)
-  acts_after now link first next made own quiet acts =
-      let others = next first.host
-      in record {
-        dropped = acts.dropped;
-        beginning = items_joined now first.calls others.calls link
-            ∙ ap (λ xs. xs ++ items_taken now others.calls (calls_made now first.calls link).link) (own_takes_nothing now first.calls link own)
-            ∙ ap (items_taken now others.calls) (sym made.link_is) ∙ acts.beginning
-            ∙ ap (λ xs. (xs ++ others.acted) ++ acts.dropped) (sym quiet.acts_on_none);
-        whole = acts.whole;
-        told = ap (λ ts. ts ++ others.told) quiet.tells_none ∙ acts.told ∙ ap (λ xs. commands_of (xs ++ others.acted)) (sym quiet.acts_on_none);
-      }
-
-  pub step_acts : (now : ℕ) (input : Input) (host : HostState Object) → ActsOn (items_taken now (host_step does now input host).calls (settled now host.link)) (host_step does now input host)
-  unfolding host_step
-  step_acts now input host =
-      acts_after now (settled now host.link) (found does now host) (going_on does now input) (found_made does now host)
-      (closing_behind_part does now (beginning does now host)).own (closing_behind_quiet now (beginning does now host)) (going_on_acts now input (found does now host).host)
+      })

@@ -10,18 +10,17 @@ use Rattle.sci_telegram.specs.declared.message.Initialisation.{Initialisation}
 use Rattle.sci_telegram.specs.declared.message.Initialisation.TheVariants as init
 use Rattle.sci_telegram.specs.declared.message.Protocol.{Protocol}
 use Rattle.sci_telegram.specs.declared.telegram.Telegram.{Telegram}
-use Rattle.rasta_core.specs.State.{is_open}
-use Rattle.rasta_core.specs.Clock.{settled}
-use Rattle.rasta_core.specs.Calls.{answer_to_send, receiving}
-use Rattle.rasta_core.specs.fault.SendFault.{SendFault}
-use Rattle.rasta_core.specs.reason.Reason.TheVariants as reason
-use Rattle.object_host.proofs.Closed.{closing_closes, settled_closed, ticking_closed}
+use Rattle.rasta_core.specs.State.{LinkState, is_open}
+use Rattle.rasta_core.specs.Clock.{alive_until, settled}
+use Rattle.rasta_core.specs.Calls.{answer_to_send, created, receiving}
+use Rattle.rasta_core.specs.identity.Identity.{Identity}
+use Rattle.object_host.proofs.Closed.{settled_closed, ticking_closed}
 use Rattle.object_host.specs.Behaviour.{Behaviour}
 use Rattle.object_host.specs.Lawful.{IsLawful}
 use Rattle.object_host.specs.Meaning.{meaning, commanding as to_object}
-use Rattle.object_host.specs.Host.{HostState, HostSoFar, fallen, is_completed, is_outside, keeping, restrictive_from, risen, silent, then_do, watched}
+use Rattle.object_host.specs.Host.{HostState, HostSoFar, fallen, is_completed, is_outside, keeping, risen, silent, then_do}
 use Rattle.object_host.specs.Hosted.{IsHosted, IsSteady}
-use Rattle.object_host.specs.Step.{acting, acting_all, after_refusal, answering, beating, beginning, closes_when_refused, closing, closing_behind, commanding, ending, following, given, goes_on, going_on, hearing, host_step, initialising, is_behind, is_admitted, most_owed, paid, paying, paying_first, posting, received, violating}
+use Rattle.object_host.specs.Step.{acting, acting_all, answering, beating, beginning, commanding, ending, following, given, goes_on, hearing, host_step, initialising, is_admitted, most_owed, paid, paying, paying_first, posting, received, violating}
 use Rattle.object_host.specs.declared.meaning.Meaning.{Meaning}
 use Rattle.object_host.specs.declared.meaning.Meaning.TheVariants as meanings
 use Rattle.object_host.specs.declared.input.Input.{Input}
@@ -181,16 +180,6 @@ module _ {Object : Type 0} (does : Behaviour Object) (law : IsLawful does) where
       let fell = fallen_right (record host { link = settled now host.link }) (clocked_right now host right)
       in record { outside = fell.outside; idle = λ early. law.tick_idles now _ (fell.idle early) }
 
-  closing_behind_right : (now : ℕ) (host : HostState Object) → IsSteady does host → IsSteady does (closing_behind does now host).host
-  unfolding closing_behind
-  closing_behind_right now host right = cases (is_behind now host) where
-    closed : HostSoFar Object
-    closed = closing now reason.User host
-
-    cases : (b : Bool) → IsSteady does (if b then record closed { host = fallen does closed.host } else silent host).host
-    cases true = fallen_right closed.host (record { outside = λ _. closing_closes now reason.User host.link; idle = right.idle })
-    cases false = right
-
   violating_right : (now : ℕ) (host : HostState Object) → is_outside host.stage ≡ false → (is_completed host.stage ≡ false → does.is_idle host.object ≡ true) →
       IsSteady does (violating now host).host
   unfolding violating
@@ -263,14 +252,6 @@ module _ {Object : Type 0} (does : Behaviour Object) (law : IsLawful does) where
       acting_all_right now (receiving now bytes.now host.link).items _ (risen_right (record host { link = (receiving now bytes.now host.link).link }) right.idle)
   given_right now (inputs.Sense sense) host right = record { outside = right.outside; idle = λ early. law.sense_idles now sense _ (right.idle early) }
 
-  after_refusal_right : (now : ℕ) (answer : Result Unit SendFault) (host : HostState Object) → is_outside host.stage ≡ false →
-      (is_completed host.stage ≡ false → does.is_idle host.object ≡ true) → IsSteady does (after_refusal does now answer host).host
-  unfolding after_refusal
-  after_refusal_right now answer host inside idle = cases (closes_when_refused does answer host) where
-    cases : (b : Bool) → IsSteady does (if b then closing now reason.Window host else silent host).host
-    cases true = of_inside _ inside idle
-    cases false = of_inside host inside idle
-
   paying_first_right : (now : ℕ) (report : Option Report) (host : HostState Object) → IsSteady does host → IsSteady does (paying_first does now report host).host
   unfolding posting
   paying_first_right now None host right = right
@@ -278,14 +259,11 @@ module _ {Object : Type 0} (does : Behaviour Object) (law : IsLawful does) where
     sent : HostSoFar Object
     sent = posting now report host
 
-    answer : Result Unit SendFault
-    answer = answer_to_send now host.link
-
     cases : (b k : Bool) → is_completed host.stage ≡ b →
-        IsSteady does (if not b then silent (paid does host) else if k then record sent { host = paid does sent.host } else then_do sent (after_refusal does now answer)).host
+        IsSteady does (if not b then silent (paid does host) else if k then record sent { host = paid does sent.host } else sent).host
     cases false k is = record { outside = right.outside; idle = λ early. law.paid_idles host.object (right.idle early) }
     cases true true is = of_inside _ (completed_inside host.stage is) (λ early. absurd (true≢false (sym is ∙ early)))
-    cases true false is = after_refusal_right now answer sent.host (completed_inside host.stage is) (λ early. absurd (true≢false (sym is ∙ early)))
+    cases true false is = of_inside _ (completed_inside host.stage is) (λ early. absurd (true≢false (sym is ∙ early)))
 
   paying_right : (now : ℕ) (more : ℕ) (host : HostState Object) → IsSteady does host → IsSteady does (paying does now more host).host
   unfolding paying
@@ -309,28 +287,29 @@ module _ {Object : Type 0} (does : Behaviour Object) (law : IsLawful does) where
   beating_right now (inputs.Datagram bytes) host right = right
   beating_right now (inputs.Sense sense) host right = right
 
-  ending_hosted : (now : ℕ) (host : HostState Object) → IsSteady does host → IsHosted does (ending does now host)
+  ending_hosted : (host : HostState Object) → IsSteady does host → IsHosted does (ending does host)
   unfolding keeping
-  ending_hosted now host right =
+  ending_hosted host right =
       let fell = fallen_right host right
       in record {
         outside = fallen_outside host right;
-        kept = law.keeps (restrictive_from (watched now (fallen does host))) (fallen does host).object;
+        kept = law.keeps (alive_until (fallen does host).link) (fallen does host).object;
         idle = λ early. law.keep_idles _ _ (fell.idle early);
       }
 
   -- every step keeps it
   pub step_hosted : (now : ℕ) (input : Input) (host : HostState Object) → IsSteady does host → IsHosted does (host_step does now input host).host
-  unfolding host_step going_on
+  unfolding host_step
   step_hosted now input host steady =
-      ending_hosted now _ (beating_right now input _ (paying_right now most_owed _ (given_right now input _ (closing_behind_right now _ (begun_right now host steady)))))
+      ending_hosted _ (beating_right now input _ (paying_right now most_owed _ (given_right now input _ (begun_right now host steady))))
 
   -- a new host
-  pub new_hosted : (begun host : HostState Object) (object : Object) → host ≡ keeping does begun → is_open begun.link.phase ≡ false → is_outside begun.stage ≡ true →
-      begun.object ≡ does.after_loss object → IsHosted does host
-  unfolding keeping
-  new_hosted begun host object kept closed out lost = rw kept (record {
-    outside = out ∙ sym (ap not closed);
-    kept = law.keeps (restrictive_from begun) begun.object;
-    idle = λ early. law.keep_idles (restrictive_from begun) begun.object (ap does.is_idle lost ∙ law.loss_idles object);
-  })
+  pub new_hosted : (identity : Identity) (first now until : ℕ) (link : LinkState) (own_name peer_name : List ℕ) (version : ℕ) (object lost kept : Object) →
+      link ≡ created identity first now → until ≡ alive_until link → lost ≡ does.after_loss object → kept ≡ does.after_keep until lost →
+      IsHosted does (record { link = link; stage = stage.Outside; object = kept; own_name = own_name; peer_name = peer_name; version = version })
+  unfolding created
+  new_hosted identity first now until link own_name peer_name version object lost kept link_is until_is lost_is kept_is = record {
+    outside = sym (ap not (ap (λ (l : LinkState). is_open l.phase) link_is));
+    kept = rw (kept_is, until_is) (law.keeps (alive_until link) lost);
+    idle = λ early. rw (kept_is, lost_is) (law.keep_idles until (does.after_loss object) (law.loss_idles object));
+  }

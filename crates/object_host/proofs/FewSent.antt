@@ -1,5 +1,5 @@
 -- How many PDUs the calls of a link hand out, and how many it may still hand out after them.
-use Rattle.std.proofs.Common.{◌≡◌, ℕ, suc, ◌+◌, ◌-◌, ◌<◌, ◌≤◌, ◌⊎◌, inl, inr, Bool, true, false, ◌&&◌, ◌==◌, not, nat_lt, nat_le, List, [], ◌∷◌, ◌++◌, length, Result, Ok, Err, is_ok, refl, ap, sym, subst, ◌∙◌, arith, if◌then◌else◌}
+use Rattle.std.proofs.Common.{◌≡◌, ℕ, suc, ◌+◌, ◌-◌, ◌<◌, ◌≤◌, ◌⊎◌, inl, inr, Bool, true, false, ◌&&◌, ◌==◌, not, nat_lt, nat_le, List, [], ◌∷◌, ◌++◌, length, Result, Ok, Err, is_ok, refl, ap, arith, if◌then◌else◌}
 use Rattle.std.specs.Prelude.{nat_eq}
 use Rattle.std.specs.Cmp.Lexicographic.{pointwise}
 use Rattle.std.proofs.lemmas.Bool.{false≢true}
@@ -12,8 +12,6 @@ use Rattle.rasta_core.specs.PdusHandedOut.{Step, beating, closed, closing, enter
 use Rattle.rasta_core.specs.Establishment.{granting, joining, judging}
 use Rattle.rasta_core.specs.Receipt.{Receipt, accepting, admission, admitting, ahead, answering, answers_request, asking, bringing, by_state, confirms, connected, handing, hearing, in_turn, is_opening_again, is_stale, missing, refusing, repeated, repeating, resting, retagged, taking, testing, violating}
 use Rattle.rasta_core.specs.Calls.{acceptance, closing_by, hearing_bytes, receiving, sending_item, ticking}
-use Rattle.rasta_core.specs.Outbox.{OutboxState}
-use Rattle.rasta_core.specs.fault.SendFault.{SendFault}
 use Rattle.rasta_core.specs.header.Header.{Header}
 use Rattle.rasta_core.specs.phase.Phase.{Phase}
 use Rattle.rasta_core.specs.phase.Phase.TheVariants as phase
@@ -30,17 +28,7 @@ use Rattle.rasta_pdu.specs.declared.body.Body.TheVariants.{ConnectionRequest, Co
 use Rattle.rasta_pdu.specs.declared.body.Opening.{Opening}
 use Rattle.rasta_pdu.specs.declared.fault.PduFault.{PduFault}
 use Rattle.rasta_pdu.specs.declared.pdu.Pdu.{Pdu}
-use Rattle.object_host.specs.Behaviour.{Behaviour}
-use Rattle.object_host.specs.Host.{HostState, HostSoFar, fallen, is_outside}
-use Rattle.object_host.specs.Host.{silent as so_far}
-use Rattle.object_host.specs.Hosted.{most_in_step}
-use Rattle.object_host.specs.Step.{after_refusal, closes_when_refused, closing as host_closing, closing_behind, is_behind}
-use Rattle.object_host.specs.declared.input.Input.{Input}
-use Rattle.object_host.specs.declared.input.Input.TheVariants as inputs
-use Rattle.object_host.specs.declared.stage.Stage.TheVariants as stage
-use Rattle.object_host.specs.inside.Performed.{IsPerformed, before_tick, by_tick, may_send, most_from}
-use Rattle.object_host.proofs.OutboxPosts.{posted_nothing}
-use Rattle.object_host.proofs.Closed.{closing_closes, entered_is}
+use Rattle.object_host.specs.inside.Performed.{may_send}
 
 -- ---- what a link may still send
 
@@ -367,11 +355,10 @@ window_and_close link = cases (is_open link.phase) where
   cases true = omega arith
   cases false = omega arith
 
--- A retransmission is answered by all that the window holds, and what is sent after it has to find room there. In no connection
--- none is.
-pub receiving_few : (now : ℕ) (bytes : List ℕ) (link : LinkState) → length (receiving now bytes link).pdus ≤ 22 → length (receiving now bytes link).pdus + may_send (receiving now bytes link).link ≤ most_from link
-unfolding receiving entered most_from
-receiving_few now bytes link few = by_connection (is_open link.phase) refl where
+-- A retransmission is answered by all that the window holds, and what is sent after it has to find room there.
+pub receiving_few : (now : ℕ) (bytes : List ℕ) (link : LinkState) → length (receiving now bytes link).pdus ≤ 22 → length (receiving now bytes link).pdus + may_send (receiving now bytes link).link ≤ 23
+unfolding receiving entered
+receiving_few now bytes link few = cases (is_open begun.link.phase) refl where
   begun : Step
   begun = limited (settled now link)
 
@@ -388,122 +375,3 @@ receiving_few now bytes link few = by_connection (is_open link.phase) refl where
   cases : (b : Bool) → is_open begun.link.phase ≡ b → length (begun.pdus ++ heard.pdus) + may_send heard.link ≤ 23
   cases true opened = answered (limited_closes (settled now link) opened) (hearing_answers (reading link.identity.key bytes) begun.link)
   cases false shut = omega (arith, joined, limited_one (settled now link), one_hearing (reading link.identity.key bytes) begun.link shut, at_most_a_window heard.link)
-
-  outside : is_open link.phase ≡ false → length (begun.pdus ++ heard.pdus) + may_send heard.link ≤ 22
-  outside shut =
-      let rests : begun ≡ silent (record link { clock = now }) = entered_is now link shut
-      in let none : length begun.pdus ≡ 0 = ap (λ (s : Step). length s.pdus) rests
-      in let still : is_open begun.link.phase ≡ false = ap (λ (s : Step). is_open s.link.phase) rests ∙ shut
-      in omega (arith, joined, none, one_hearing (reading link.identity.key bytes) begun.link still, at_most_a_window heard.link)
-
-  by_connection : (b : Bool) → is_open link.phase ≡ b → length (begun.pdus ++ heard.pdus) + may_send heard.link ≤ (if b then 23 else 22)
-  by_connection true opened = cases (is_open begun.link.phase) refl
-  by_connection false shut = outside shut
-
--- ---- what a host hands out before its input, with it and behind it
-
-pub fewer_without_input : (link : LinkState) → may_send link ≤ most_from link
-unfolding most_from
-fewer_without_input link = cases (is_open link.phase) where
-  cases : (b : Bool) → may_send link ≤ (if b then 23 else 22)
-  cases true = omega (arith, at_most_a_window link)
-  cases false = omega (arith, at_most_a_window link)
-
-at_least_22 : (link : LinkState) → 22 ≤ most_from link
-unfolding most_from
-at_least_22 link = cases (is_open link.phase) where
-  cases : (b : Bool) → 22 ≤ (if b then 23 else 22)
-  cases true = omega arith
-  cases false = omega arith
-
-pub few_with_tick : (input : Input) (link : LinkState) → before_tick input link + by_tick input ≤ most_from link
-few_with_tick inputs.Tick link = omega (arith, at_least_22 link)
-few_with_tick (inputs.Datagram bytes) link = omega arith
-few_with_tick (inputs.Sense sense) link = omega arith
-
-pub few_before_tick : (input : Input) (link : LinkState) → before_tick input link ≤ most_from link
-few_before_tick input link = omega (arith, few_with_tick input link)
-
--- a close hands out one PDU at most
-told_one : (why : Reason) (link : LinkState) → length (closing why link).pdus ≤ 1
-unfolding closing telling sending
-told_one why link = cases (is_told why) where
-  cases : (b : Bool) → length (if b then telling why link else silent (closed link)).pdus ≤ 1
-  cases true = omega arith
-  cases false = omega arith
-
-one_closing : (now : ℕ) (why : Reason) (link : LinkState) → length (closing_by now why link).pdus ≤ 1
-unfolding closing_by entered
-one_closing now why link = cases (is_open begun.link.phase) refl where
-  begun : Step
-  begun = limited (settled now link)
-
-  closes : Bool → Step
-  closes b = if b then closing why begun.link else silent begun.link
-
-  joined : (b : Bool) → length (begun.pdus ++ (closes b).pdus) ≡ length begun.pdus + length (closes b).pdus
-  joined b = length-append begun.pdus (closes b).pdus
-
-  by : (b : Bool) → is_open begun.link.phase ≡ b → length (begun.pdus ++ (closes b).pdus) ≤ 1
-  by true opened = omega (arith, joined true, limited_closes (settled now link) opened, told_one why begun.link)
-  by false shut = omega (arith, joined false, limited_one (settled now link))
-
-  cases : (b : Bool) → is_open begun.link.phase ≡ b → length (begun.pdus ++ (closes (is_open begun.link.phase)).pdus) ≤ 1
-  cases b is = subst (λ c. length (begun.pdus ++ (closes c).pdus) ≤ 1) (sym is) (by b is)
-
-outside_one_fewer : (link : LinkState) → is_open link.phase ≡ false → most_from link ≡ 22
-unfolding most_from
-outside_one_fewer link shut = rw shut refl
-
-most_of_all : (link : LinkState) → most_from link ≤ most_in_step
-unfolding most_from
-most_of_all link = cases (is_open link.phase) where
-  cases : (b : Bool) → (if b then 23 else 22) ≤ most_in_step
-  cases true = omega arith
-  cases false = omega arith
-
-same_link : {Object : Type 0} (does : Behaviour Object) (host : HostState Object) → (fallen does host).link ≡ host.link
-unfolding fallen
-same_link does host = cases (not (is_outside host.stage) && not (is_open host.link.phase)) where
-  cases : (b : Bool) → (if b then record host { stage = stage.Outside; object = does.after_loss host.object } else host).link ≡ host.link
-  cases true = refl
-  cases false = refl
-
--- one that isn't closed hands out nothing
-pub performs_nothing : {Object : Type 0} (does : Behaviour Object) (now : ℕ) (host : HostState Object) (box : OutboxState) → host.link.clock ≡ now → is_behind now host ≡ false →
-    IsPerformed (may_send host.link) now (closing_behind does now host) host host box box
-unfolding closing_behind
-performs_nothing does now host box at none = rw none (record {
-  host = refl;
-  kept = record { clock = at; identity = refl };
-  posts = sym (posted_nothing host.link.identity.key box);
-  few = omega arith;
-  items = tt;
-})
-
--- nor one that a refusal doesn't close
-pub reacts_not : {Object : Type 0} (does : Behaviour Object) (now : ℕ) (answer : Result Unit SendFault) (host : HostState Object) (box : OutboxState) → host.link.clock ≡ now → closes_when_refused does answer host ≡ false →
-    IsPerformed (may_send host.link) now (after_refusal does now answer host) host host box box
-unfolding after_refusal
-reacts_not does now answer host box at none = rw none (record {
-  host = refl;
-  kept = record { clock = at; identity = refl };
-  posts = sym (posted_nothing host.link.identity.key box);
-  few = omega arith;
-  items = tt;
-})
-
--- so one that is closed before its input leaves room for what the input brings
-pub closed_few : {Object : Type 0} (does : Behaviour Object) (now : ℕ) (host : HostState Object) → length (closing_behind does now host).pdus + most_from (closing_behind does now host).host.link ≤ most_in_step
-unfolding closing_behind
-closed_few {Object} does now host = cases (is_behind now host) where
-  part : HostSoFar Object
-  part = host_closing now reason.User host
-
-  after : most_from (fallen does part.host).link ≡ 22
-  after = ap most_from (same_link does part.host) ∙ outside_one_fewer part.host.link (closing_closes now reason.User host.link)
-
-  cases : (b : Bool) → length (if b then record part { host = fallen does part.host } else so_far host).pdus
-      + most_from (if b then record part { host = fallen does part.host } else so_far host).host.link ≤ most_in_step
-  cases true = omega (arith, one_closing now reason.User host.link, after)
-  cases false = omega (arith, most_of_all host.link)

@@ -1,20 +1,17 @@
 -- What a step keeps, and that the clock rules may have been applied before it.
-use Rattle.std.proofs.Common.{◌≡◌, ◌≤◌, ℕ, Bool, true, false, nat_le, not, ◌&&◌, if◌then◌else◌, arith, refl, ap, sym, subst, ◌∙◌}
-use Rattle.std.proofs.lemmas.Bool.{false≢true, true≢false}
+use Rattle.std.proofs.Common.{◌≡◌, ◌≤◌, ℕ, Bool, true, false, nat_le, not, ◌&&◌, if◌then◌else◌, arith, refl, ap, sym, ◌∙◌}
+use Rattle.std.proofs.lemmas.Bool.{false≢true}
 use Rattle.std.proofs.lemmas.Bool.Decides.{nat_tests}
 use Rattle.rasta_core.specs.State.{LinkState, is_open}
 use Rattle.rasta_core.specs.Clock.{deadline, settled}
-use Rattle.rasta_core.specs.Calls.{closing_by}
-use Rattle.rasta_core.specs.reason.Reason.TheVariants as reason
 use Rattle.rasta_core.specs.phase.Phase.TheVariants as phase
 use Rattle.object_host.specs.Behaviour.{Behaviour}
-use Rattle.object_host.specs.Host.{HostState, HostSoFar, fallen, is_completed, is_outside, silent, then_do, watched}
+use Rattle.object_host.specs.Host.{HostState, fallen, is_completed, is_outside, then_do}
 use Rattle.object_host.specs.Hosted.{IsNamedAs}
-use Rattle.object_host.specs.Step.{beating, beginning, closing, closing_behind, given, going_on, host_step, is_behind, most_owed, paying}
+use Rattle.object_host.specs.Step.{beating, beginning, ending, given, host_step, most_owed, paying}
 use Rattle.object_host.specs.declared.input.Input.{Input}
 use Rattle.object_host.specs.declared.stage.Stage.TheVariants as stage
-use Rattle.object_host.proofs.Closed.{IsJustClosed, just_closed, just_through, settled_is}
-use Rattle.object_host.proofs.Made.{begun_link, fallen_link, going_on_made}
+use Rattle.object_host.proofs.Closed.{settled_is}
 use Rattle.object_host.proofs.Says.{given_says}
 use Rattle.object_host.proofs.Told.{beating_same, ending_names, open_stage, pays_all}
 
@@ -51,21 +48,17 @@ settled_twice earlier now link later = cases (is_open link.phase) (nat_le (deadl
       ∙ sym (settled_late now link opened (past earlier now (deadline link) later at))
   cases true false opened at = ap (settled now) (settled_early earlier link opened at) ∙ settled_from earlier now link
 
-settled_clock : (now : ℕ) (link : LinkState) → (settled now link).clock ≡ now
-unfolding settled
-settled_clock now link = cases (is_open link.phase && nat_le (deadline link) now) where
-  cases : (b : Bool) → (if b then record link { phase = phase.Closed; closed_at = deadline link; clock = now } else record link { clock = now }).clock ≡ now
-  cases true = refl
-  cases false = refl
-
 module _ {Object : Type 0} (does : Behaviour Object) where
   pub step_settles_first : (earlier now : ℕ) (input : Input) (host : HostState Object) → earlier ≤ now →
       host_step does now input (record host { link = settled earlier host.link }) ≡ host_step does now input host
   unfolding host_step beginning
   step_settles_first earlier now input host later =
       ap (λ link.
-      let begun = record (watched now (fallen does (record host { link = link }))) { object = does.after_tick now (fallen does (record host { link = link })).object }
-      in then_do (closing_behind does now begun) (going_on does now input))
+      let begun = record (fallen does (record host { link = link })) { object = does.after_tick now (fallen does (record host { link = link })).object }
+      in let heard = given does now input begun
+      in let told = then_do heard (paying does now most_owed)
+      in let done = then_do told (beating now input)
+      in record done { host = ending does done.host })
       (settled_twice earlier now host.link later)
 
   begun_names : (now : ℕ) (host : HostState Object) → IsNamedAs host (beginning does now host)
@@ -77,9 +70,9 @@ module _ {Object : Type 0} (does : Behaviour Object) where
     after : Bool → HostState Object
     after b = if b then record clocked { stage = stage.Outside; object = does.after_loss clocked.object } else clocked
 
-    cases : (b : Bool) → IsNamedAs host (record (watched now (after b)) { object = does.after_tick now (after b).object })
-    cases true = record { own_name = refl; peer_name = refl; version = refl; is_strict = refl }
-    cases false = record { own_name = refl; peer_name = refl; version = refl; is_strict = refl }
+    cases : (b : Bool) → IsNamedAs host (record (after b) { object = does.after_tick now (after b).object })
+    cases true = record { own_name = refl; peer_name = refl; version = refl }
+    cases false = record { own_name = refl; peer_name = refl; version = refl }
 
   begun_stage : (now : ℕ) (host : HostState Object) → is_open (settled now host.link).phase ≡ true → (beginning does now host).stage ≡ host.stage
   unfolding beginning fallen
@@ -92,75 +85,31 @@ module _ {Object : Type 0} (does : Behaviour Object) where
     cases false true is = refl
     cases false false is = absurd (false≢true is)
 
-  found_names : (now : ℕ) (host : HostState Object) → IsNamedAs host (closing_behind does now host).host
-  unfolding closing_behind fallen
-  found_names now host = cases (is_behind now host) (not (is_outside host.stage) && not (is_open closed.link.phase)) where
-    closed : HostState Object
-    closed = (closing now reason.User host).host
-
-    fell : Bool → HostState Object
-    fell o = if o then record closed { stage = stage.Outside; object = does.after_loss closed.object } else closed
-
-    cases : (b o : Bool) → IsNamedAs host (if b then record (closing now reason.User host) { host = fell o } else silent host).host
-    cases true true = record { own_name = refl; peer_name = refl; version = refl; is_strict = refl }
-    cases true false = record { own_name = refl; peer_name = refl; version = refl; is_strict = refl }
-    cases false o = record { own_name = refl; peer_name = refl; version = refl; is_strict = refl }
-
   pub step_names : (now : ℕ) (input : Input) (host : HostState Object) → IsNamedAs host (host_step does now input host).host
-  unfolding host_step going_on
+  unfolding host_step
   step_names now input host =
       let begun = beginning does now host
-      in let here = (closing_behind does now begun).host
-      in let heard = given does now input here
+      in let heard = given does now input begun
       in let told = then_do heard (paying does now most_owed)
       in let done = then_do told (beating now input)
       in let first = begun_names now host
-      in let next = found_names now begun
-      in let says = given_says does now input here
+      in let says = given_says does now input begun
       in let payment = pays_all does now most_owed heard.host
       in let beat = beating_same does now input told.host
-      in let last = ending_names does now done.host
+      in let last = ending_names does done.host
       in record {
-        own_name = last.own_name ∙ beat.own_name_is ∙ payment.own_name_is ∙ says.own_name_is ∙ next.own_name ∙ first.own_name;
-        peer_name = last.peer_name ∙ beat.peer_name_is ∙ payment.peer_name_is ∙ says.peer_name_is ∙ next.peer_name ∙ first.peer_name;
-        version = last.version ∙ beat.version_is ∙ payment.version_is ∙ says.version_is ∙ next.version ∙ first.version;
-        is_strict = last.is_strict ∙ beat.is_strict_is ∙ payment.is_strict_is ∙ says.is_strict_is ∙ next.is_strict ∙ first.is_strict;
+        own_name = last.own_name ∙ beat.own_name_is ∙ payment.own_name_is ∙ says.own_name_is ∙ first.own_name;
+        peer_name = last.peer_name ∙ beat.peer_name_is ∙ payment.peer_name_is ∙ says.peer_name_is ∙ first.peer_name;
+        version = last.version ∙ beat.version_is ∙ payment.version_is ∙ says.version_is ∙ first.version;
       }
-
-  -- a host that is completed stays so while its link is open
-  going_on_completed : (now : ℕ) (input : Input) (host : HostState Object) → is_completed host.stage ≡ true → is_open (going_on does now input host).host.link.phase ≡ true →
-      is_completed (going_on does now input host).host.stage ≡ true
-  unfolding going_on
-  going_on_completed now input host completed open_after =
-      let heard = given does now input host
-      in let told = then_do heard (paying does now most_owed)
-      in let done = then_do told (beating now input)
-      in ap is_completed (open_stage does now done.host open_after ∙ (beating_same does now input told.host).stage_is ∙ (pays_all does now most_owed heard.host).stage_is)
-      ∙ (given_says does now input host).stays completed
-
-  -- one that just closed stays closed
-  stays_closed : (now : ℕ) (input : Input) (host : HostState Object) → IsJustClosed now host.link → is_open (going_on does now input host).host.link.phase ≡ false
-  stays_closed now input host just =
-      ap (λ (l : LinkState). is_open l.phase) (going_on_made does now input host).link_is ∙ (just_through now (going_on does now input host).calls host.link just).closed
-
-  begun_closes : (now : ℕ) (host : HostState Object) → is_open (settled now host.link).phase ≡ true → IsJustClosed now (closing_by now reason.User (beginning does now host).link).link
-  begun_closes now host opened =
-      subst (λ l. IsJustClosed now (closing_by now reason.User l).link) (sym (begun_link does now host))
-      (just_closed now (settled now host.link) (settled_twice now now host.link (omega arith)) (settled_clock now host.link) opened)
 
   pub step_completed : (now : ℕ) (input : Input) (host : HostState Object) → is_open (settled now host.link).phase ≡ true → is_completed host.stage ≡ true →
       is_open (host_step does now input host).host.link.phase ≡ true → is_completed (host_step does now input host).host.stage ≡ true
-  unfolding host_step closing_behind
-  step_completed now input host opened completed = cases (is_behind now begun) where
-    begun : HostState Object
-    begun = beginning does now host
-
-    closed : HostSoFar Object
-    closed = closing now reason.User begun
-
-    first : Bool → HostSoFar Object
-    first b = if b then record closed { host = fallen does closed.host } else silent begun
-
-    cases : (b : Bool) → is_open (then_do (first b) (going_on does now input)).host.link.phase ≡ true → is_completed (then_do (first b) (going_on does now input)).host.stage ≡ true
-    cases false open_after = going_on_completed now input begun (ap is_completed (begun_stage now host opened) ∙ completed) open_after
-    cases true open_after = absurd (true≢false (sym open_after ∙ stays_closed now input (fallen does closed.host) (subst (IsJustClosed now) (sym (fallen_link does closed.host)) (begun_closes now host opened))))
+  unfolding host_step
+  step_completed now input host opened completed open_after =
+      let begun = beginning does now host
+      in let heard = given does now input begun
+      in let told = then_do heard (paying does now most_owed)
+      in let done = then_do told (beating now input)
+      in ap is_completed (open_stage does done.host open_after ∙ (beating_same does now input told.host).stage_is ∙ (pays_all does now most_owed heard.host).stage_is)
+      ∙ (given_says does now input begun).stays (ap is_completed (begun_stage now host opened) ∙ completed)

@@ -7,7 +7,6 @@ pub mod OwedReports
 pub mod Closed
 pub mod Between
 pub mod Made
-pub mod Behind
 pub mod Acts
 pub mod Says
 pub mod Told

@@ -1,23 +1,19 @@
 -- A step is the calls of the link that it lists.
-use Rattle.std.proofs.Common.{rules, ◌≡◌, inl, inr, ℕ, suc, zero, Bool, true, false, not, ◌&&◌, ◌==◌, nat_le, if◌then◌else◌, List, [], ◌∷◌, ◌++◌, append_assoc, refl, ap, sym, ◌∙◌, subst}
+use Rattle.std.proofs.Common.{rules, ◌≡◌, ℕ, suc, zero, Bool, true, false, not, ◌==◌, if◌then◌else◌, List, [], ◌∷◌, ◌++◌, append_assoc, refl, ap, sym, ◌∙◌, subst}
 use Rattle.std.specs.Prelude.{Option, Some, None, Result, Ok, Err, is_ok}
-use Rattle.std.proofs.lemmas.Bool.{false≢true}
 use Rattle.std.proofs.lemmas.List.{append-nil}
 use Rattle.sci_telegram.specs.TelegramRead.{reading}
 use Rattle.sci_telegram.specs.declared.fault.SciFault.{SciFault}
 use Rattle.sci_telegram.specs.declared.telegram.Telegram.{Telegram}
 use Rattle.sci_telegram.specs.declared.message.Initialisation.TheVariants.{StartInitialisation, InitialisationCompleted}
-use Rattle.rasta_core.specs.State.{LinkState, is_open, is_up}
-use Rattle.rasta_core.specs.fault.SendFault.{SendFault}
-use Rattle.rasta_core.specs.reason.Reason.{Reason}
-use Rattle.rasta_core.specs.reason.Reason.TheVariants as reason
+use Rattle.rasta_core.specs.State.{LinkState, is_open}
 use Rattle.rasta_core.specs.Clock.{settled}
 use Rattle.rasta_core.specs.Calls.{answer_to_send, receiving}
 use Rattle.object_host.specs.Behaviour.{Behaviour}
 use Rattle.object_host.specs.Meaning.{meaning}
-use Rattle.object_host.specs.Host.{HostState, LinkCall, HostSoFar, Closes, Receives, Ticks, fallen, is_completed, keeping, linked, risen, said, silent, then_do}
+use Rattle.object_host.specs.Host.{HostState, LinkCall, HostSoFar, Ticks, fallen, is_completed, keeping, linked, risen, said, silent, then_do}
 use Rattle.object_host.specs.Made.{AreCallsFor, AreOwn, IsMadeOf, call_made, calls_made}
-use Rattle.object_host.specs.Step.{acting, acting_all, after_refusal, answering, beating, beginning, closes_when_refused, closing, closing_behind, commanding, following, found, given, goes_on, going_on, hearing, host_step, is_behind, initialising, is_admitted, most_owed, paid, paying, paying_first, posting, posting_all, received, telling_status, violating}
+use Rattle.object_host.specs.Step.{acting, acting_all, answering, beating, beginning, commanding, following, given, goes_on, hearing, host_step, initialising, is_admitted, most_owed, paid, paying, paying_first, posting, posting_all, received, telling_status, violating}
 use Rattle.object_host.specs.declared.meaning.Meaning.{Meaning}
 use Rattle.object_host.specs.declared.meaning.Meaning.TheVariants as meanings
 use Rattle.object_host.specs.declared.input.Input.{Input}
@@ -92,9 +88,6 @@ module _ {Object : Type 0} where
   unfolding posting
   posting_part now report host = record { made = made_linked now _ host; own = (tt, tt) }
 
-  pub closing_part : (now : ℕ) (why : Reason) (host : HostState Object) → IsPart now host.link (closing now why host)
-  closing_part now why host = record { made = made_linked now _ host; own = (tt, tt) }
-
   pub violating_part : (now : ℕ) (host : HostState Object) → IsPart now host.link (violating now host)
   unfolding violating
   violating_part now host = record { made = made_linked now _ host; own = (tt, tt) }
@@ -158,26 +151,16 @@ module _ {Object : Type 0} (does : Behaviour Object) where
       cases true next = part_then now host.link _ (acting_all does now others) (acting_part now item (reading item) host) next
       cases false next = part_silent now host
 
-  pub after_refusal_part : (now : ℕ) (answer : Result Unit SendFault) (host : HostState Object) → IsPart now host.link (after_refusal does now answer host)
-  unfolding after_refusal
-  after_refusal_part now answer host = cases (closes_when_refused does answer host) where
-    cases : (b : Bool) → IsPart now host.link (if b then closing now reason.Window host else silent host)
-    cases true = closing_part now reason.Window host
-    cases false = part_silent now host
-
   pub paying_first_part : (now : ℕ) (report : Option Report) (host : HostState Object) → IsPart now host.link (paying_first does now report host)
   paying_first_part now None host = part_silent now host
   paying_first_part now (Some report) host = cases (is_completed host.stage) (is_ok (answer_to_send now host.link)) where
     sent : HostSoFar Object
     sent = posting now report host
 
-    answer : Result Unit SendFault
-    answer = answer_to_send now host.link
-
-    cases : (b k : Bool) → IsPart now host.link (if not b then silent (paid does host) else if k then record sent { host = paid does sent.host } else then_do sent (after_refusal does now answer))
+    cases : (b k : Bool) → IsPart now host.link (if not b then silent (paid does host) else if k then record sent { host = paid does sent.host } else sent)
     cases false k = as_part now host.link _ _ (part_silent now host) refl refl refl
     cases true true = as_part now host.link _ _ (posting_part now report host) refl refl refl
-    cases true false = part_then now host.link sent (after_refusal does now answer) (posting_part now report host) (after_refusal_part now answer sent.host)
+    cases true false = posting_part now report host
 
   pub paying_part : (now : ℕ) (more : ℕ) (host : HostState Object) → IsPart now host.link (paying does now more host)
   unfolding paying
@@ -220,13 +203,7 @@ module _ {Object : Type 0} (does : Behaviour Object) where
   given_made now (inputs.Datagram bytes) host = hearing_made now bytes.now host
   given_made now (inputs.Sense sense) host = made_silent now (record host { object = does.after_sense now sense host.object })
 
-  -- a datagram is received first
-  abbrev GoesOn : Input → List LinkCall → Type 0
-  GoesOn inputs.Tick calls = AreOwn calls
-  GoesOn (inputs.Datagram bytes) calls = (others : List LinkCall) × (calls ≡ Receives bytes.now ∷ others) × AreOwn others
-  GoesOn (inputs.Sense sense) calls = AreOwn calls
-
-  given_calls : (now : ℕ) (input : Input) (host : HostState Object) → GoesOn input (given does now input host).calls
+  given_calls : (now : ℕ) (input : Input) (host : HostState Object) → AreCallsFor input (given does now input host).calls
   unfolding given hearing received
   given_calls now inputs.Tick host = tt
   given_calls now (inputs.Datagram bytes) host =
@@ -235,82 +212,31 @@ module _ {Object : Type 0} (does : Behaviour Object) where
       in ((acting_all does now receipt.items begun).calls, refl, (acting_all_part now receipt.items begun).own)
   given_calls now (inputs.Sense sense) host = tt
 
-  more_calls : (input : Input) (calls more : List LinkCall) → GoesOn input calls → AreOwn more → GoesOn input (calls ++ more)
+  more_calls : (input : Input) (calls more : List LinkCall) → AreCallsFor input calls → AreOwn more → AreCallsFor input (calls ++ more)
   more_calls inputs.Tick calls more own others = own_joined calls more own others
   more_calls (inputs.Datagram bytes) calls more first others = (first.0 ++ more, ap (λ cs. cs ++ more) first.1, own_joined first.0 more first.2 others)
   more_calls (inputs.Sense sense) calls more own others = own_joined calls more own others
 
-  -- no call comes before it, or a close of a link that is up
-  nothing_first : (now : ℕ) (link : LinkState) (input : Input) (calls : List LinkCall) → GoesOn input calls → AreCallsFor now link input calls
-  nothing_first now link inputs.Tick calls own = own
-  nothing_first now link (inputs.Datagram bytes) calls goes = (goes.0, inl goes.1, goes.2)
-  nothing_first now link (inputs.Sense sense) calls own = own
-
-  closed_first : (now : ℕ) (link : LinkState) (input : Input) (calls : List LinkCall) → GoesOn input calls → is_up (settled now link).phase ≡ true →
-      AreCallsFor now link input (Closes reason.User ∷ calls)
-  closed_first now link inputs.Tick calls own up = (tt, own)
-  closed_first now link (inputs.Datagram bytes) calls goes up = (goes.0, inr (ap (λ cs. Closes reason.User ∷ cs) goes.1, up), goes.2)
-  closed_first now link (inputs.Sense sense) calls own up = (tt, own)
-
-  pub closing_behind_part : (now : ℕ) (host : HostState Object) → IsPart now host.link (closing_behind does now host)
-  unfolding closing_behind
-  closing_behind_part now host = cases (is_behind now host) where
-    closed : HostSoFar Object
-    closed = closing now reason.User host
-
-    cases : (b : Bool) → IsPart now host.link (if b then record closed { host = fallen does closed.host } else silent host)
-    cases true = as_part now host.link closed (record closed { host = fallen does closed.host }) (closing_part now reason.User host) (fallen_link closed.host) refl refl
-    cases false = part_silent now host
+  pub step_calls : (now : ℕ) (input : Input) (host : HostState Object) → AreCallsFor input (host_step does now input host).calls
+  unfolding host_step
+  step_calls now input host =
+      let begun = beginning does now host
+      in let heard = given does now input begun
+      in let told = then_do heard (paying does now most_owed)
+      in more_calls input told.calls (beating now input told.host).calls
+      (more_calls input heard.calls (paying does now most_owed heard.host).calls (given_calls now input begun) (paying_part now most_owed heard.host).own)
+      (beating_part now input told.host).own
 
   pub begun_link : (now : ℕ) (host : HostState Object) → (beginning does now host).link ≡ settled now host.link
   unfolding beginning
   begun_link now host = fallen_link (record host { link = settled now host.link })
 
-  going_on_calls : (now : ℕ) (input : Input) (host : HostState Object) → GoesOn input (going_on does now input host).calls
-  unfolding going_on
-  going_on_calls now input host =
-      let heard = given does now input host
-      in let told = then_do heard (paying does now most_owed)
-      in more_calls input told.calls (beating now input told.host).calls
-      (more_calls input heard.calls (paying does now most_owed heard.host).calls (given_calls now input host) (paying_part now most_owed heard.host).own)
-      (beating_part now input told.host).own
-
-  up_where : (strict up late : Bool) → strict && up && late ≡ true → up ≡ true
-  up_where true true late is = refl
-  up_where true false late is = absurd (false≢true is)
-  up_where false up late is = absurd (false≢true is)
-
-  pub step_calls : (now : ℕ) (input : Input) (host : HostState Object) → AreCallsFor now host.link input (host_step does now input host).calls
-  unfolding host_step closing_behind
-  step_calls now input host = cases (is_behind now begun) refl where
-    begun : HostState Object
-    begun = beginning does now host
-
-    closed : HostSoFar Object
-    closed = closing now reason.User begun
-
-    first : Bool → HostSoFar Object
-    first b = if b then record closed { host = fallen does closed.host } else silent begun
-
-    up : is_behind now begun ≡ true → is_up (settled now host.link).phase ≡ true
-    up is = sym (ap (λ (l : LinkState). is_up l.phase) (begun_link now host)) ∙ up_where begun.is_strict (is_up begun.link.phase) (nat_le begun.caught_up_until now) is
-
-    cases : (b : Bool) → is_behind now begun ≡ b → AreCallsFor now host.link input (then_do (first b) (going_on does now input)).calls
-    cases true is = closed_first now host.link input _ (going_on_calls now input (fallen does closed.host)) (up is)
-    cases false is = nothing_first now host.link input _ (going_on_calls now input begun)
-
-  -- what a step does before its input
-  pub found_made : (now : ℕ) (host : HostState Object) → IsMadeOf now (settled now host.link) (found does now host)
-  found_made now host = subst (λ l. IsMadeOf now l (found does now host)) (begun_link now host) (closing_behind_part now (beginning does now host)).made
-
-  pub going_on_made : (now : ℕ) (input : Input) (host : HostState Object) → IsMadeOf now host.link (going_on does now input host)
-  unfolding going_on keeping
-  going_on_made now input host =
-      let heard = given_made now input host
-      in let told = made_then now host.link _ (paying does now most_owed) heard (paying_part now most_owed _).made
-      in let done = made_then now host.link _ (beating now input) told (beating_part now input _).made
-      in record { link_is = fallen_link _ ∙ done.link_is; pdus_are = done.pdus_are }
-
   pub step_made : (now : ℕ) (input : Input) (host : HostState Object) → IsMadeOf now (settled now host.link) (host_step does now input host)
-  unfolding host_step
-  step_made now input host = made_then now (settled now host.link) (found does now host) (going_on does now input) (found_made now host) (going_on_made now input _)
+  unfolding host_step keeping
+  step_made now input host =
+      let begun = beginning does now host
+      in let heard = given_made now input begun
+      in let told = made_then now begun.link _ (paying does now most_owed) heard (paying_part now most_owed _).made
+      in let done = made_then now begun.link _ (beating now input) told (beating_part now input _).made
+      in subst (λ l. IsMadeOf now l (host_step does now input host)) (begun_link now host)
+      (record { link_is = fallen_link _ ∙ done.link_is; pdus_are = done.pdus_are })

@@ -1,17 +1,19 @@
 -- A refused datagram leaves what a step with the refusal alone leaves.
 use Rattle.std.proofs.Common.{◌≡◌, ℕ, List, ◌++◌, refl, ap, sym, ◌∙◌, subst}
 use Rattle.std.proofs.lemmas.List.{append-nil}
+use Rattle.rasta_core.specs.Clock.{settled}
 use Rattle.rasta_core.specs.PdusHandedOut.{entered}
 use Rattle.rasta_core.specs.Calls.{receiving}
 use Rattle.rasta_core.specs.Receipt.{Receipt}
 use Rattle.rasta_core.specs.Verdicts.{refused}
 use Rattle.rasta_core.specs.verdict.Verdict.{Verdict}
 use Rattle.object_host.specs.Behaviour.{Behaviour}
-use Rattle.object_host.specs.Host.{HostState, HostSoFar, silent, then_do}
-use Rattle.object_host.specs.Refused.{LeavesRefused, RefusesRightly, going_on_refused, refusal, step_refused}
-use Rattle.object_host.specs.Step.{acting_all, beating, ending, found, given, going_on, hearing, host_step, most_owed, paying, received}
+use Rattle.object_host.specs.Host.{HostState, HostSoFar, then_do}
+use Rattle.object_host.specs.Refused.{LeavesRefused, RefusesRightly, refusal, step_refused}
+use Rattle.object_host.specs.Step.{acting_all, beating, beginning, ending, given, hearing, host_step, most_owed, paying, received}
 use Rattle.object_host.specs.declared.input.Input.{Input}
 use Rattle.object_host.specs.declared.input.Input.TheVariants as inputs
+use Rattle.object_host.proofs.Made.{begun_link}
 
 module _ {Object : Type 0} (does : Behaviour Object) where
   -- two parts that leave the same
@@ -33,26 +35,17 @@ module _ {Object : Type 0} (does : Behaviour Object) where
       in subst (λ (r : Receipt). AreAlike (then_do (received now bytes r host) (acting_all does now r.items)) (refusal now why host)) (sym is)
       (record { host_is = refl; pdus_are = append-nil left.pdus })
 
-  goes_on_refused : (now : ℕ) (bytes : List ℕ) (why : Verdict) (host : HostState Object) (receipt : Receipt) → receipt ≡ refused why (entered now host.link) →
-      AreAlike (record (then_do (then_do (then_do (received now bytes receipt host) (acting_all does now receipt.items)) (paying does now most_owed)) silent)
-      { host = ending does now (then_do (then_do (received now bytes receipt host) (acting_all does now receipt.items)) (paying does now most_owed)).host })
-      (going_on_refused does now why host)
-  unfolding going_on_refused
-  goes_on_refused now bytes why host receipt is =
-      let heard = then_do (received now bytes receipt host) (acting_all does now receipt.items)
-      in let alike = alike_then heard (refusal now why host) (paying does now most_owed) (hears_nothing now bytes why host receipt is)
-      in record {
-        host_is = ap (ending does now) alike.host_is;
-        pdus_are = append-nil (then_do heard (paying does now most_owed)).pdus ∙ alike.pdus_are;
-      }
-
-  pub leaves_refused : (now : ℕ) (input : Input) (host : HostState Object) → RefusesRightly now input (found does now host).host.link →
+  pub leaves_refused : (now : ℕ) (input : Input) (host : HostState Object) → RefusesRightly now input (settled now host.link) →
       LeavesRefused does now input host (host_step does now input host)
-  unfolding host_step going_on given hearing beating step_refused
+  unfolding host_step given hearing beating step_refused
   leaves_refused now inputs.Tick host rightly = tt
   leaves_refused now (inputs.Datagram bytes) host rightly = λ refuses.
-      let first = found does now host
-      in let why = (receiving now bytes.now first.host.link).verdict
-      in let alike = goes_on_refused now bytes.now why first.host (receiving now bytes.now first.host.link) (rightly refuses)
-      in (alike.host_is, ap (λ ps. first.pdus ++ ps) alike.pdus_are)
+      let begun = beginning does now host
+      in let why = (receiving now bytes.now (settled now host.link)).verdict
+      in let receipt = receiving now bytes.now begun.link
+      in let is : receipt ≡ refused why (entered now begun.link) =
+      subst (λ l. receiving now bytes.now l ≡ refused why (entered now l)) (sym (begun_link does now host)) (rightly refuses)
+      in let heard = then_do (received now bytes.now receipt begun) (acting_all does now receipt.items)
+      in let alike = alike_then heard (refusal now why begun) (paying does now most_owed) (hears_nothing now bytes.now why begun receipt is)
+      in (ap (ending does) alike.host_is, append-nil (then_do heard (paying does now most_owed)).pdus ∙ alike.pdus_are)
   leaves_refused now (inputs.Sense sense) host rightly = tt

@@ -73,7 +73,6 @@ module _ {Object : Type 0} where
     own_name_is : part.host.own_name ≡ host.own_name
     peer_name_is : part.host.peer_name ≡ host.peer_name
     version_is : part.host.version ≡ host.version
-    is_strict_is : part.host.is_strict ≡ host.is_strict
 
   posts_one : (now : ℕ) (report : Report) (host : HostState Object) → Posts now host (report ∷ []) (posting now report host)
   unfolding posting items_given
@@ -86,7 +85,6 @@ module _ {Object : Type 0} where
       own_name_is = refl;
       peer_name_is = refl;
       version_is = refl;
-      is_strict_is = refl;
     }
     cases false is = record {
       some = [];
@@ -95,7 +93,6 @@ module _ {Object : Type 0} where
       own_name_is = refl;
       peer_name_is = refl;
       version_is = refl;
-      is_strict_is = refl;
     }
 
   posts_then : (now : ℕ) (host : HostState Object) (all others : List Report) (first : HostSoFar Object) (next : HostState Object → HostSoFar Object) → IsMadeOf now host.link first →
@@ -111,12 +108,11 @@ module _ {Object : Type 0} where
     own_name_is = more.own_name_is ∙ one.own_name_is;
     peer_name_is = more.peer_name_is ∙ one.peer_name_is;
     version_is = more.version_is ∙ one.version_is;
-    is_strict_is = more.is_strict_is ∙ one.is_strict_is;
   }
 
   posts_all : (now : ℕ) (reports : List Report) (host : HostState Object) → Posts now host reports (posting_all now reports host)
   unfolding posting_all items_given
-  posts_all now [] host = record { some = []; gives = refl; are_some = tt; own_name_is = refl; peer_name_is = refl; version_is = refl; is_strict_is = refl }
+  posts_all now [] host = record { some = []; gives = refl; are_some = tt; own_name_is = refl; peer_name_is = refl; version_is = refl }
   posts_all now (report ∷ others) host =
       posts_then now host (report ∷ []) others (posting now report host) (posting_all now others) (posting_part now report host).made
       (posts_one now report host) (posts_all now others (posting now report host).host)
@@ -137,7 +133,6 @@ module _ {Object : Type 0} (does : Behaviour Object) where
     pub own_name_is : part.host.own_name ≡ host.own_name
     pub peer_name_is : part.host.peer_name ≡ host.peer_name
     pub version_is : part.host.version ≡ host.version
-    pub is_strict_is : part.host.is_strict ≡ host.is_strict
 
   says_then : (now : ℕ) (host : HostState Object) (first : HostSoFar Object) (next : HostState Object → HostSoFar Object) → IsMadeOf now host.link first →
       Says now host first → Says now first.host (next first.host) → Says now host (then_do first next)
@@ -168,7 +163,6 @@ module _ {Object : Type 0} (does : Behaviour Object) where
       own_name_is = more.own_name_is ∙ one.own_name_is;
       peer_name_is = more.peer_name_is ∙ one.peer_name_is;
       version_is = more.version_is ∙ one.version_is;
-      is_strict_is = more.is_strict_is ∙ one.is_strict_is;
     }
     cases false is = record {
       answers = one.answers ++ more.answers;
@@ -188,14 +182,13 @@ module _ {Object : Type 0} (does : Behaviour Object) where
       own_name_is = more.own_name_is ∙ one.own_name_is;
       peer_name_is = more.peer_name_is ∙ one.peer_name_is;
       version_is = more.version_is ∙ one.version_is;
-      is_strict_is = more.is_strict_is ∙ one.is_strict_is;
     }
 
   -- nothing is said, and only the link changes
   quiet : (now : ℕ) (host : HostState Object) (part : HostSoFar Object) → items_given now part.calls host.link ≡ [] → part.host.stage ≡ host.stage →
       (is_completed host.stage ≡ false → part.host.object ≡ host.object) →
-      part.host.own_name ≡ host.own_name → part.host.peer_name ≡ host.peer_name → part.host.version ≡ host.version → part.host.is_strict ≡ host.is_strict → Says now host part
-  quiet now host part none same object own_same peer_same version_same strict_same = record {
+      part.host.own_name ≡ host.own_name → part.host.peer_name ≡ host.peer_name → part.host.version ≡ host.version → Says now host part
+  quiet now host part none same object own_same peer_same version_same = record {
     answers = [];
     begins = [];
     gives = none;
@@ -208,16 +201,15 @@ module _ {Object : Type 0} (does : Behaviour Object) where
     own_name_is = own_same;
     peer_name_is = peer_same;
     version_is = version_same;
-    is_strict_is = strict_same;
   }
 
   silent_says : (now : ℕ) (host : HostState Object) → Says now host (silent host)
   unfolding items_given
-  silent_says now host = quiet now host (silent host) refl refl (λ _. refl) refl refl refl refl
+  silent_says now host = quiet now host (silent host) refl refl (λ _. refl) refl refl refl
 
   violating_says : (now : ℕ) (host : HostState Object) → Says now host (violating now host)
   unfolding violating items_given
-  violating_says now host = quiet now host (violating now host) refl refl (λ _. refl) refl refl refl refl
+  violating_says now host = quiet now host (violating now host) refl refl (λ _. refl) refl refl refl
 
   answered : (now : ℕ) (agreement : Agreement) (after : Stage) (host : HostState Object) → is_completed after ≡ false → is_completed host.stage ≡ false →
       Says now host (at_stage after (posting now (said does (VersionAnswer agreement host.version)) host))
@@ -240,7 +232,6 @@ module _ {Object : Type 0} (does : Behaviour Object) where
       own_name_is = refl;
       peer_name_is = refl;
       version_is = refl;
-      is_strict_is = refl;
     }
     cases false is = record {
       answers = [];
@@ -255,7 +246,6 @@ module _ {Object : Type 0} (does : Behaviour Object) where
       own_name_is = refl;
       peer_name_is = refl;
       version_is = refl;
-      is_strict_is = refl;
     }
 
   answering_says : (now version : ℕ) (host : HostState Object) → is_completed host.stage ≡ false → Says now host (answering does now version host)
@@ -291,7 +281,6 @@ module _ {Object : Type 0} (does : Behaviour Object) where
         own_name_is = all.own_name_is;
         peer_name_is = all.peer_name_is;
         version_is = all.version_is;
-        is_strict_is = all.is_strict_is;
       }
 
   commanding_says : (now : ℕ) (telegram : Telegram) (host : HostState Object) → is_completed host.stage ≡ true → Says now host (commanding does now telegram host)
@@ -304,8 +293,8 @@ module _ {Object : Type 0} (does : Behaviour Object) where
     made b = if b then silent told else violating now told
 
     cases : (b : Bool) → Says now host (made b)
-    cases true = quiet now host (made true) refl refl (λ early. absurd (true≢false (sym completed ∙ early))) refl refl refl refl
-    cases false = quiet now host (made false) refl refl (λ early. absurd (true≢false (sym completed ∙ early))) refl refl refl refl
+    cases true = quiet now host (made true) refl refl (λ early. absurd (true≢false (sym completed ∙ early))) refl refl refl
+    cases false = quiet now host (made false) refl refl (λ early. absurd (true≢false (sym completed ∙ early))) refl refl refl
 
   -- what a part says is what it lists beside the items acted on
   as_says : (now : ℕ) (host : HostState Object) (part same : HostSoFar Object) → Says now host part → same.host ≡ part.host → same.calls ≡ part.calls → Says now host same
@@ -324,7 +313,6 @@ module _ {Object : Type 0} (does : Behaviour Object) where
         own_name_is = ap (λ (h : HostState Object). h.own_name) host-same ∙ says.own_name_is;
         peer_name_is = ap (λ (h : HostState Object). h.peer_name) host-same ∙ says.peer_name_is;
         version_is = ap (λ (h : HostState Object). h.version) host-same ∙ says.version_is;
-        is_strict_is = ap (λ (h : HostState Object). h.is_strict) host-same ∙ says.is_strict_is;
       }
 
   pub following_says : (now : ℕ) (item : List ℕ) (telegram : Telegram) (c : Meaning) (host : HostState Object) → meaning telegram.message host.stage ≡ c →
@@ -366,13 +354,12 @@ module _ {Object : Type 0} (does : Behaviour Object) where
     own_name_is : after.own_name ≡ host.own_name
     peer_name_is : after.peer_name ≡ host.peer_name
     version_is : after.version ≡ host.version
-    is_strict_is : after.is_strict ≡ host.is_strict
 
   rose : (host : HostState Object) → Rose host (risen host)
   unfolding risen
   rose host = cases (is_outside host.stage) (is_open host.link.phase) refl where
     same : Rose host host
-    same = record { link_is = refl; late = λ completed. completed; early = λ early. early; object_is = refl; own_name_is = refl; peer_name_is = refl; version_is = refl; is_strict_is = refl }
+    same = record { link_is = refl; late = λ completed. completed; early = λ early. early; object_is = refl; own_name_is = refl; peer_name_is = refl; version_is = refl }
 
     cases : (o p : Bool) → is_outside host.stage ≡ o → Rose host (if o && p then record host { stage = stage.AwaitsCheck } else host)
     cases true true out = record {
@@ -383,7 +370,6 @@ module _ {Object : Type 0} (does : Behaviour Object) where
       own_name_is = refl;
       peer_name_is = refl;
       version_is = refl;
-      is_strict_is = refl;
     }
     cases true false out = same
     cases false p out = same
@@ -397,14 +383,13 @@ module _ {Object : Type 0} (does : Behaviour Object) where
     pub own_name_is : part.host.own_name ≡ host.own_name
     pub peer_name_is : part.host.peer_name ≡ host.peer_name
     pub version_is : part.host.version ≡ host.version
-    pub is_strict_is : part.host.is_strict ≡ host.is_strict
 
   nothing_said : (host : HostState Object) → IsSaid does host host.stage []
   nothing_said host = record { answers = []; begins = []; own_is = refl; are_answers = All-nil (IsVersionAnswer does host.version); are_some = tt; completes = λ _. refl; late = λ _. refl }
 
   pub given_says : (now : ℕ) (input : Input) (host : HostState Object) → SaysInAll now host (given does now input host)
   unfolding given hearing received items_given
-  given_says now inputs.Tick host = record { own = []; gives = refl; said_is = nothing_said host; stays = λ completed. completed; own_name_is = refl; peer_name_is = refl; version_is = refl; is_strict_is = refl }
+  given_says now inputs.Tick host = record { own = []; gives = refl; said_is = nothing_said host; stays = λ completed. completed; own_name_is = refl; peer_name_is = refl; version_is = refl }
   given_says now (inputs.Datagram bytes) host =
       let receipt = receiving now bytes.now host.link
       in let heard : HostState Object = record host { link = receipt.link }
@@ -428,6 +413,5 @@ module _ {Object : Type 0} (does : Behaviour Object) where
         own_name_is = says.own_name_is ∙ rises.own_name_is;
         peer_name_is = says.peer_name_is ∙ rises.peer_name_is;
         version_is = says.version_is ∙ rises.version_is;
-        is_strict_is = says.is_strict_is ∙ rises.is_strict_is;
       }
-  given_says now (inputs.Sense sense) host = record { own = []; gives = refl; said_is = record { answers = []; begins = []; own_is = refl; are_answers = All-nil (IsVersionAnswer does host.version); are_some = tt; completes = λ _. refl; late = λ _. refl }; stays = λ completed. completed; own_name_is = refl; peer_name_is = refl; version_is = refl; is_strict_is = refl }
+  given_says now (inputs.Sense sense) host = record { own = []; gives = refl; said_is = record { answers = []; begins = []; own_is = refl; are_answers = All-nil (IsVersionAnswer does host.version); are_some = tt; completes = λ _. refl; late = λ _. refl }; stays = λ completed. completed; own_name_is = refl; peer_name_is = refl; version_is = refl }

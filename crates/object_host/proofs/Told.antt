@@ -7,18 +7,16 @@ use Rattle.sci_telegram.specs.TelegramRead.{reading}
 use Rattle.sci_telegram.specs.declared.fault.SciFault.{SciFault}
 use Rattle.sci_telegram.specs.declared.telegram.Telegram.{Telegram}
 use Rattle.rasta_core.specs.State.{LinkState, is_open}
-use Rattle.rasta_core.specs.fault.SendFault.{SendFault}
-use Rattle.rasta_core.specs.reason.Reason.TheVariants as reason
-use Rattle.rasta_core.specs.Clock.{settled}
+use Rattle.rasta_core.specs.Clock.{alive_until, settled}
 use Rattle.rasta_core.specs.Calls.{answer_to_send, receiving}
 use Rattle.object_host.specs.Behaviour.{Behaviour}
 use Rattle.object_host.specs.Meaning.{meaning}
-use Rattle.object_host.specs.Host.{HostState, HostSoFar, fallen, is_completed, is_outside, keeping, restrictive_from, risen, silent, then_do, watched}
+use Rattle.object_host.specs.Host.{HostState, HostSoFar, fallen, is_completed, is_outside, keeping, risen, silent, then_do}
 use Rattle.object_host.specs.Hosted.{IsNamedAs}
 use Rattle.object_host.specs.Made.{IsMadeOf, calls_made, items_given}
 use Rattle.object_host.specs.Object.{ObjectCall, Takes, Ticks, Senses, Keeps, Pays, Loses, object_after, contacts_in, object_after_all, one_of, paid_in, reports_paid, telegrams_in}
-use Rattle.object_host.specs.Step.{acting, acting_all, after_refusal, answering, beating, beginning, closes_when_refused, closing, closing_behind, commanding, ending, following, found, given, goes_on, going_on, hearing, host_step, initialising, is_behind, is_admitted, most_owed, paid, paying, paying_first, posting, posting_all, received, violating}
-use Rattle.object_host.specs.Told.{AllFit, AreComing, ArePayments, IsToldIn, calls_begun, contacts_of, has_lost, item_of, loses_behind, loss_where}
+use Rattle.object_host.specs.Step.{acting, acting_all, answering, beating, beginning, commanding, ending, following, given, goes_on, hearing, host_step, initialising, is_admitted, most_owed, paid, paying, paying_first, posting, posting_all, received, violating}
+use Rattle.object_host.specs.Told.{AllFit, AreComing, ArePayments, IsToldIn, contacts_of, has_lost, item_of, loss_where}
 use Rattle.object_host.specs.declared.meaning.Meaning.{Meaning}
 use Rattle.object_host.specs.declared.meaning.Meaning.TheVariants as meanings
 use Rattle.object_host.specs.declared.input.Input.{Input}
@@ -28,9 +26,9 @@ use Rattle.object_host.specs.declared.stage.Stage.TheVariants as stage
 use Rattle.object_host.specs.declared.sense.Sense.{Sense}
 use Rattle.object_host.proofs.Says.{acting_all_says, following_says, given_joined, given_says, items_same, map_joined}
 use Rattle.object_host.proofs.Between.{commands_late, is_command}
-use Rattle.object_host.proofs.Acts.{beating_quiet, closed_silent, closing_behind_quiet, own_closed, paying_quiet}
+use Rattle.object_host.proofs.Acts.{beating_quiet, closed_silent, own_closed, paying_quiet}
 use Rattle.object_host.proofs.Closed.{closing_closes}
-use Rattle.object_host.proofs.Made.{IsPart, beating_part, fallen_link, found_made, given_made, made_then, posting_part, paying_first_part, paying_part}
+use Rattle.object_host.proofs.Made.{IsPart, beating_part, begun_link, fallen_link, given_made, made_then, paying_first_part, paying_part}
 
 -- lists of calls joined
 coming_joined : (now : ℕ) (first others : List ObjectCall) → AreComing now first → AreComing now others → AreComing now (first ++ others)
@@ -166,7 +164,7 @@ module _ {Object : Type 0} (does : Behaviour Object) where
 
     cases : (b : Bool) → does.accepts now telegram host.object ≡ b → TellsOf now host (if b then silent told else violating now told) (telegram ∷ []) []
     cases true fits = told_one now telegram host.object _ (λ _. fits)
-    cases false fits = told_one now telegram host.object _ (λ opened. absurd (true≢false (sym opened ∙ closing_closes now reason.State host.link)))
+    cases false fits = told_one now telegram host.object _ (λ opened. absurd (true≢false (sym opened ∙ closing_closes now host.link)))
 
   following_told : (now : ℕ) (item : List ℕ) (telegram : Telegram) (c : Meaning) (host : HostState Object) →
       TellsOf now host (following does now item telegram c host) (following does now item telegram c host).told []
@@ -252,42 +250,12 @@ module _ {Object : Type 0} (does : Behaviour Object) where
       let clocked : HostState Object = record host { link = settled now host.link }
       in ap (does.after_tick now) (fallen_is clocked) ∙ sym (after_joined (loss_where (has_lost clocked)) (Ticks now ∷ []) host.object)
 
-  -- a link that isn't caught up any more closes, and the object is told of it
-  behind_is : (now : ℕ) (host : HostState Object) → (closing_behind does now host).host.object ≡ object_after_all does (loss_where (loses_behind now host)) host.object
-  unfolding closing_behind object_after_all
-  behind_is now host = cases (is_behind now host) where
-    closed : HostSoFar Object
-    closed = closing now reason.User host
-
-    lost : has_lost closed.host ≡ not (is_outside host.stage)
-    lost = by (not (is_outside host.stage)) where
-      both : (b : Bool) → (b && true) ≡ b
-      both true = refl
-      both false = refl
-
-      by : (b : Bool) → (b && not (is_open closed.host.link.phase)) ≡ b
-      by b = rw (closing_closes now reason.User host.link) (both b)
-
-    cases : (b : Bool) → (if b then record closed { host = fallen does closed.host } else silent host).host.object ≡ object_after_all does (loss_where (b && not (is_outside host.stage))) host.object
-    cases true = fallen_is closed.host ∙ ap (λ b. object_after_all does (loss_where b) host.object) lost
-    cases false = refl
-
-  found_is : (now : ℕ) (host : HostState Object) → (found does now host).host.object ≡ object_after_all does (calls_begun does now host) host.object
-  found_is now host =
-      let clocked : HostState Object = record host { link = settled now host.link }
-      in let behind = loss_where (loses_behind now (beginning does now host))
-      in behind_is now (beginning does now host)
-      ∙ ap (object_after_all does behind) (begun_is now host)
-      ∙ sym (after_joined (loss_where (has_lost clocked) ++ Ticks now ∷ []) behind host.object)
-      ∙ ap (λ calls. object_after_all does calls host.object) (append_assoc (loss_where (has_lost clocked)) (Ticks now ∷ []) behind)
-
-  ended_is : (now : ℕ) (host : HostState Object) →
-      (ending does now host).object ≡ object_after_all does (loss_where (has_lost host) ++ Keeps (restrictive_from (ending does now host)) ∷ []) host.object
+  ended_is : (host : HostState Object) →
+      (ending does host).object ≡ object_after_all does (loss_where (has_lost host) ++ Keeps (alive_until (ending does host).link) ∷ []) host.object
   unfolding keeping object_after_all
-  ended_is now host =
-      let moment = restrictive_from (watched now (fallen does host))
-      in ap (does.after_keep moment) (fallen_is host)
-      ∙ sym (after_joined (loss_where (has_lost host)) (Keeps moment ∷ []) host.object)
+  ended_is host =
+      ap (does.after_keep (alive_until (fallen does host).link)) (fallen_is host)
+      ∙ sym (after_joined (loss_where (has_lost host)) (Keeps (alive_until (fallen does host).link) ∷ []) host.object)
 
   -- a host that is in a connection isn't taken out of it before the end of the step
   violating_inside : (now : ℕ) (host : HostState Object) → is_outside host.stage ≡ false → is_outside (violating now host).host.stage ≡ false
@@ -420,7 +388,6 @@ module _ {Object : Type 0} (does : Behaviour Object) where
     pub own_name_is : part.host.own_name ≡ host.own_name
     pub peer_name_is : part.host.peer_name ≡ host.peer_name
     pub version_is : part.host.version ≡ host.version
-    pub is_strict_is : part.host.is_strict ≡ host.is_strict
     reports : List Report
     gives : items_given now part.calls host.link ≡ map (item_of host) reports
     sent : is_completed host.stage ≡ true → reports ≡ reports_paid does calls host.object
@@ -436,56 +403,11 @@ module _ {Object : Type 0} (does : Behaviour Object) where
     own_name_is = refl;
     peer_name_is = refl;
     version_is = refl;
-    is_strict_is = refl;
     reports = [];
     gives = refl;
     sent = λ _. refl;
     dropped = λ _. refl;
   }
-
-  pays_then : (now : ℕ) (host : HostState Object) (first : HostSoFar Object) (next : HostState Object → HostSoFar Object) → IsMadeOf now host.link first →
-      IsPaying now host first → IsPaying now first.host (next first.host) → IsPaying now host (then_do first next)
-  pays_then now host first next made one more = record {
-    calls = one.calls ++ more.calls;
-    object_is = more.object_is ∙ ap (object_after_all does more.calls) one.object_is ∙ sym (after_joined one.calls more.calls host.object);
-    are_payments = payments_joined one.calls more.calls one.are_payments more.are_payments;
-    stage_is = more.stage_is ∙ one.stage_is;
-    own_name_is = more.own_name_is ∙ one.own_name_is;
-    peer_name_is = more.peer_name_is ∙ one.peer_name_is;
-    version_is = more.version_is ∙ one.version_is;
-    is_strict_is = more.is_strict_is ∙ one.is_strict_is;
-    reports = one.reports ++ more.reports;
-    gives = given_joined now first.calls (next first.host).calls host.link
-        ∙ ap (λ xs. xs ++ items_given now (next first.host).calls (calls_made now first.calls host.link).link) one.gives
-        ∙ ap (λ l. map (item_of host) one.reports ++ items_given now (next first.host).calls l) (sym made.link_is)
-        ∙ ap (λ xs. map (item_of host) one.reports ++ xs) (more.gives ∙ items_same more.reports host first.host one.own_name_is one.peer_name_is)
-        ∙ sym (map_joined (item_of host) one.reports more.reports);
-    sent = λ completed.
-        ap (λ rs. rs ++ more.reports) (one.sent completed)
-        ∙ ap (λ rs. reports_paid does one.calls host.object ++ rs) (more.sent (ap is_completed one.stage_is ∙ completed) ∙ ap (reports_paid does more.calls) one.object_is)
-        ∙ sym (paid_joined one.calls more.calls host.object);
-    dropped = λ early. ap (λ rs. rs ++ more.reports) (one.dropped early) ∙ more.dropped (ap is_completed one.stage_is ∙ early);
-  }
-
-  refused_pays : (now : ℕ) (answer : Result Unit SendFault) (host : HostState Object) → IsPaying now host (after_refusal does now answer host)
-  unfolding after_refusal object_after_all telegrams_in contacts_in reports_paid items_given
-  refused_pays now answer host = cases (closes_when_refused does answer host) where
-    cases : (b : Bool) → IsPaying now host (if b then closing now reason.Window host else silent host)
-    cases true = record {
-      calls = [];
-      object_is = refl;
-      are_payments = tt;
-      stage_is = refl;
-      own_name_is = refl;
-      peer_name_is = refl;
-      version_is = refl;
-      is_strict_is = refl;
-      reports = [];
-      gives = refl;
-      sent = λ _. refl;
-      dropped = λ _. refl;
-    }
-    cases false = pays_nothing now host
 
   pays_first : (now : ℕ) (owed : Option Report) (host : HostState Object) → does.owed host.object ≡ owed → IsPaying now host (paying_first does now owed host)
   unfolding posting object_after_all telegrams_in contacts_in reports_paid items_given
@@ -494,11 +416,8 @@ module _ {Object : Type 0} (does : Behaviour Object) where
     posted : HostSoFar Object
     posted = posting now report host
 
-    answer : Result Unit SendFault
-    answer = answer_to_send now host.link
-
     cases : (b k : Bool) → is_completed host.stage ≡ b → is_ok (answer_to_send now host.link) ≡ k →
-        IsPaying now host (if not b then silent (paid does host) else if k then record posted { host = paid does posted.host } else then_do posted (after_refusal does now answer))
+        IsPaying now host (if not b then silent (paid does host) else if k then record posted { host = paid does posted.host } else posted)
     cases false k completed accepted = record {
       calls = Pays ∷ [];
       object_is = refl;
@@ -507,7 +426,6 @@ module _ {Object : Type 0} (does : Behaviour Object) where
       own_name_is = refl;
       peer_name_is = refl;
       version_is = refl;
-      is_strict_is = refl;
       reports = [];
       gives = refl;
       sent = λ early. absurd (true≢false (sym early ∙ completed));
@@ -521,28 +439,47 @@ module _ {Object : Type 0} (does : Behaviour Object) where
       own_name_is = refl;
       peer_name_is = refl;
       version_is = refl;
-      is_strict_is = refl;
       reports = report ∷ [];
       gives = ap (λ b. (if b then item_of host report ∷ [] else []) ++ []) accepted;
       sent = λ _. ap (λ (o : Option Report). one_of o ++ []) (sym is);
       dropped = λ early. absurd (true≢false (sym completed ∙ early));
     }
-    cases true false completed accepted = pays_then now host posted (after_refusal does now answer) (posting_part now report host).made unsent (refused_pays now answer posted.host) where
-      unsent : IsPaying now host posted
-      unsent = record {
-        calls = [];
-        object_is = refl;
-        are_payments = tt;
-        stage_is = refl;
-        own_name_is = refl;
-        peer_name_is = refl;
-        version_is = refl;
-        is_strict_is = refl;
-        reports = [];
-        gives = ap (λ b. (if b then item_of host report ∷ [] else []) ++ []) accepted;
-        sent = λ _. refl;
-        dropped = λ _. refl;
-      }
+    cases true false completed accepted = record {
+      calls = [];
+      object_is = refl;
+      are_payments = tt;
+      stage_is = refl;
+      own_name_is = refl;
+      peer_name_is = refl;
+      version_is = refl;
+      reports = [];
+      gives = ap (λ b. (if b then item_of host report ∷ [] else []) ++ []) accepted;
+      sent = λ _. refl;
+      dropped = λ _. refl;
+    }
+
+  pays_then : (now : ℕ) (host : HostState Object) (first : HostSoFar Object) (next : HostState Object → HostSoFar Object) → IsMadeOf now host.link first →
+      IsPaying now host first → IsPaying now first.host (next first.host) → IsPaying now host (then_do first next)
+  pays_then now host first next made one more = record {
+    calls = one.calls ++ more.calls;
+    object_is = more.object_is ∙ ap (object_after_all does more.calls) one.object_is ∙ sym (after_joined one.calls more.calls host.object);
+    are_payments = payments_joined one.calls more.calls one.are_payments more.are_payments;
+    stage_is = more.stage_is ∙ one.stage_is;
+    own_name_is = more.own_name_is ∙ one.own_name_is;
+    peer_name_is = more.peer_name_is ∙ one.peer_name_is;
+    version_is = more.version_is ∙ one.version_is;
+    reports = one.reports ++ more.reports;
+    gives = given_joined now first.calls (next first.host).calls host.link
+        ∙ ap (λ xs. xs ++ items_given now (next first.host).calls (calls_made now first.calls host.link).link) one.gives
+        ∙ ap (λ l. map (item_of host) one.reports ++ items_given now (next first.host).calls l) (sym made.link_is)
+        ∙ ap (λ xs. map (item_of host) one.reports ++ xs) (more.gives ∙ items_same more.reports host first.host one.own_name_is one.peer_name_is)
+        ∙ sym (map_joined (item_of host) one.reports more.reports);
+    sent = λ completed.
+        ap (λ rs. rs ++ more.reports) (one.sent completed)
+        ∙ ap (λ rs. reports_paid does one.calls host.object ++ rs) (more.sent (ap is_completed one.stage_is ∙ completed) ∙ ap (reports_paid does more.calls) one.object_is)
+        ∙ sym (paid_joined one.calls more.calls host.object);
+    dropped = λ early. ap (λ rs. rs ++ more.reports) (one.dropped early) ∙ more.dropped (ap is_completed one.stage_is ∙ early);
+  }
 
   pub pays_all : (now : ℕ) (more : ℕ) (host : HostState Object) → IsPaying now host (paying does now more host)
   unfolding paying
@@ -565,13 +502,12 @@ module _ {Object : Type 0} (does : Behaviour Object) where
     pub own_name_is : new.own_name ≡ old.own_name
     pub peer_name_is : new.peer_name ≡ old.peer_name
     pub version_is : new.version ≡ old.version
-    pub is_strict_is : new.is_strict ≡ old.is_strict
 
   pub beating_same : (now : ℕ) (input : Input) (host : HostState Object) → IsEnded host (beating now input host).host
   unfolding beating
-  beating_same now inputs.Tick host = record { object_is = refl; stage_is = refl; own_name_is = refl; peer_name_is = refl; version_is = refl; is_strict_is = refl }
-  beating_same now (inputs.Datagram bytes) host = record { object_is = refl; stage_is = refl; own_name_is = refl; peer_name_is = refl; version_is = refl; is_strict_is = refl }
-  beating_same now (inputs.Sense sense) host = record { object_is = refl; stage_is = refl; own_name_is = refl; peer_name_is = refl; version_is = refl; is_strict_is = refl }
+  beating_same now inputs.Tick host = record { object_is = refl; stage_is = refl; own_name_is = refl; peer_name_is = refl; version_is = refl }
+  beating_same now (inputs.Datagram bytes) host = record { object_is = refl; stage_is = refl; own_name_is = refl; peer_name_is = refl; version_is = refl }
+  beating_same now (inputs.Sense sense) host = record { object_is = refl; stage_is = refl; own_name_is = refl; peer_name_is = refl; version_is = refl }
 
   beating_gives : (now : ℕ) (input : Input) (host : HostState Object) → items_given now (beating now input host).calls host.link ≡ []
   unfolding beating items_given
@@ -579,71 +515,61 @@ module _ {Object : Type 0} (does : Behaviour Object) where
   beating_gives now (inputs.Datagram bytes) host = refl
   beating_gives now (inputs.Sense sense) host = refl
 
-  pub ending_names : (now : ℕ) (host : HostState Object) → IsNamedAs host (ending does now host)
+  pub ending_names : (host : HostState Object) → IsNamedAs host (ending does host)
   unfolding keeping fallen
-  ending_names now host = cases (not (is_outside host.stage) && not (is_open host.link.phase)) where
-    cases : (b : Bool) → IsNamedAs host (keeping does (watched now (if b then record host { stage = stage.Outside; object = does.after_loss host.object } else host)))
-    cases true = record { own_name = refl; peer_name = refl; version = refl; is_strict = refl }
-    cases false = record { own_name = refl; peer_name = refl; version = refl; is_strict = refl }
+  ending_names host = cases (not (is_outside host.stage) && not (is_open host.link.phase)) where
+    cases : (b : Bool) → IsNamedAs host (keeping does (if b then record host { stage = stage.Outside; object = does.after_loss host.object } else host))
+    cases true = record { own_name = refl; peer_name = refl; version = refl }
+    cases false = record { own_name = refl; peer_name = refl; version = refl }
 
-  stays_open : (now : ℕ) (host : HostState Object) → is_open (ending does now host).link.phase ≡ true → has_lost host ≡ false
+  stays_open : (host : HostState Object) → is_open (ending does host).link.phase ≡ true → has_lost host ≡ false
   unfolding keeping
-  stays_open now host opened =
+  stays_open host opened =
       rw (sym (ap (λ (l : LinkState). is_open l.phase) (fallen_link does host)) ∙ opened) (cases (not (is_outside host.stage)))
     where
       cases : (b : Bool) → (b && false) ≡ false
       cases true = refl
       cases false = refl
 
-  pub open_stage : (now : ℕ) (host : HostState Object) → is_open (ending does now host).link.phase ≡ true → (ending does now host).stage ≡ host.stage
+  pub open_stage : (host : HostState Object) → is_open (ending does host).link.phase ≡ true → (ending does host).stage ≡ host.stage
   unfolding keeping fallen
-  open_stage now host opened = cases (is_outside host.stage) (is_open host.link.phase) (sym (ap (λ (l : LinkState). is_open l.phase) (fallen_link does host)) ∙ opened) where
-    cases : (o p : Bool) → p ≡ true → (keeping does (watched now (if not o && not p then record host { stage = stage.Outside; object = does.after_loss host.object } else host))).stage ≡ host.stage
+  open_stage host opened = cases (is_outside host.stage) (is_open host.link.phase) (sym (ap (λ (l : LinkState). is_open l.phase) (fallen_link does host)) ∙ opened) where
+    cases : (o p : Bool) → p ≡ true → (keeping does (if not o && not p then record host { stage = stage.Outside; object = does.after_loss host.object } else host)).stage ≡ host.stage
     cases true p opened = refl
     cases false true opened = refl
     cases false false opened = absurd (false≢true opened)
 
-  falls_closed : (now : ℕ) (host : HostState Object) → is_outside host.stage ≡ false → is_open (ending does now host).link.phase ≡ false → has_lost host ≡ true
+  falls_closed : (host : HostState Object) → is_outside host.stage ≡ false → is_open (ending does host).link.phase ≡ false → has_lost host ≡ true
   unfolding keeping
-  falls_closed now host inside closed = rw (inside, sym (ap (λ (l : LinkState). is_open l.phase) (fallen_link does host)) ∙ closed) refl
+  falls_closed host inside closed = rw (inside, sym (ap (λ (l : LinkState). is_open l.phase) (fallen_link does host)) ∙ closed) refl
 
-  open_ending : (now : ℕ) (host : HostState Object) → is_open (ending does now host).link.phase ≡ true → is_open host.link.phase ≡ true
+  open_ending : (host : HostState Object) → is_open (ending does host).link.phase ≡ true → is_open host.link.phase ≡ true
   unfolding keeping
-  open_ending now host opened = sym (ap (λ (l : LinkState). is_open l.phase) (fallen_link does host)) ∙ opened
+  open_ending host opened = sym (ap (λ (l : LinkState). is_open l.phase) (fallen_link does host)) ∙ opened
 
   -- a step: what comes, what is paid and what ends it
-  behind_gives : (now : ℕ) (host : HostState Object) (link : LinkState) → items_given now (closing_behind does now host).calls link ≡ []
-  unfolding closing_behind items_given
-  behind_gives now host link = cases (is_behind now host) where
-    closed : HostSoFar Object
-    closed = closing now reason.User host
-
-    cases : (b : Bool) → items_given now (if b then record closed { host = fallen does closed.host } else silent host).calls link ≡ []
-    cases true = refl
-    cases false = refl
-
   pub step_told : (now : ℕ) (input : Input) (host : HostState Object) → IsToldIn does now input host (host_step does now input host)
-  unfolding host_step going_on
+  unfolding host_step
   step_told now input host =
-      let first = found does now host
-      in let begun = first.host
+      let clocked : HostState Object = record host { link = settled now host.link }
+      in let begun = beginning does now host
       in let heard = given does now input begun
       in let told = then_do heard (paying does now most_owed)
       in let done = then_do told (beating now input)
-      in let last : List ObjectCall = loss_where (has_lost done.host) ++ Keeps (restrictive_from (ending does now done.host)) ∷ []
+      in let first : List ObjectCall = loss_where (has_lost clocked) ++ Ticks now ∷ []
+      in let last : List ObjectCall = loss_where (has_lost done.host) ++ Keeps (alive_until (ending does done.host).link) ∷ []
       in let comes = given_told now input begun
       in let payment = pays_all now most_owed heard.host
       in let during : List ObjectCall = comes.calls ++ payment.calls
       in let beat = beating_same now input told.host
-      in let names = ending_names now done.host
+      in let names = ending_names done.host
       in let own_name_is = names.own_name ∙ beat.own_name_is ∙ payment.own_name_is
       in let peer_name_is = names.peer_name ∙ beat.peer_name_is ∙ payment.peer_name_is
       in let says = given_says does now input begun
       in let middle : told.host.object ≡ object_after_all does during begun.object =
       payment.object_is ∙ ap (object_after_all does payment.calls) comes.object_is ∙ sym (after_joined comes.calls payment.calls begun.object)
-      in let told_is : heard.told ≡ first.told ++ done.told =
-      sym (ap (λ ts. ts ++ done.told) (closing_behind_quiet does now (beginning does now host)).tells_none
-      ∙ ap (λ ts. (heard.told ++ ts) ++ (beating now input told.host).told) (paying_quiet does now most_owed heard.host).tells_none
+      in let told_is : heard.told ≡ done.told =
+      sym (ap (λ ts. (heard.told ++ ts) ++ (beating now input told.host).told) (paying_quiet does now most_owed heard.host).tells_none
       ∙ ap (λ ts. (heard.told ++ []) ++ ts) (beating_quiet does now input told.host).tells_none
       ∙ append-nil (heard.told ++ [])
       ∙ append-nil heard.told)
@@ -658,46 +584,42 @@ module _ {Object : Type 0} (does : Behaviour Object) where
       ∙ given_joined now heard.calls (paying does now most_owed heard.host).calls begun.link
       ∙ ap (λ l. items_given now heard.calls begun.link ++ items_given now (paying does now most_owed heard.host).calls l) (sym heard_link)
       ∙ ap (λ xs. items_given now heard.calls begun.link ++ xs) payment.gives
-      in let whole_given : items_given now (first.calls ++ done.calls) (settled now host.link) ≡ items_given now done.calls begun.link =
-      given_joined now first.calls done.calls (settled now host.link)
-      ∙ ap (λ xs. xs ++ items_given now done.calls (calls_made now first.calls (settled now host.link)).link) (behind_gives now (beginning does now host) (settled now host.link))
-      ∙ ap (items_given now done.calls) (sym (found_made does now host).link_is)
       in record {
         comes = comes.calls;
         pays = payment.calls;
         are_coming = comes.are_coming;
         are_payments = payment.are_payments;
         is_lost = has_lost done.host;
-        begun_is = found_is now host;
-        object_is = ended_is now done.host
+        begun_is = begun_is now host;
+        object_is = ended_is done.host
             ∙ ap (object_after_all does last) (beat.object_is ∙ middle)
             ∙ sym (after_joined during last begun.object)
-            ∙ ap (object_after_all does (during ++ last)) (found_is now host)
-            ∙ sym (after_joined (calls_begun does now host) (during ++ last) host.object);
+            ∙ ap (object_after_all does (during ++ last)) (begun_is now host)
+            ∙ sym (after_joined first (during ++ last) host.object);
         takes = comes.takes ∙ told_is;
         untold = λ early. sym told_is ∙ given_untold now input begun early;
-        fit = λ opened. comes.fit (opened_before (is_open heard.host.link.phase) refl (open_ending now done.host opened));
+        fit = λ opened. comes.fit (opened_before (is_open heard.host.link.phase) refl (open_ending done.host opened));
         senses = comes.feels;
-        stays = stays_open now done.host;
-        falls = λ inside closed. falls_closed now done.host (ap is_outside (beat.stage_is ∙ payment.stage_is) ∙ inside) closed;
+        stays = stays_open done.host;
+        falls = λ inside closed. falls_closed done.host (ap is_outside (beat.stage_is ∙ payment.stage_is) ∙ inside) closed;
         own = says.own;
         reports = payment.reports;
-        gives = whole_given ∙ given_in_all
+        gives = ap (items_given now done.calls) (sym (begun_link does now host)) ∙ given_in_all
             ∙ ap (λ xs. xs ++ map (item_of heard.host) payment.reports) says.gives
             ∙ ap (λ xs. xs ++ map (item_of heard.host) payment.reports)
-            (sym (items_same says.own begun (ending does now done.host) (own_name_is ∙ says.own_name_is) (peer_name_is ∙ says.peer_name_is)))
-            ∙ ap (λ xs. map (item_of (ending does now done.host)) says.own ++ xs) (sym (items_same payment.reports heard.host (ending does now done.host) own_name_is peer_name_is))
-            ∙ sym (map_joined (item_of (ending does now done.host)) says.own payment.reports);
+            (sym (items_same says.own begun (ending does done.host) (own_name_is ∙ says.own_name_is) (peer_name_is ∙ says.peer_name_is)))
+            ∙ ap (λ xs. map (item_of (ending does done.host)) says.own ++ xs) (sym (items_same payment.reports heard.host (ending does done.host) own_name_is peer_name_is))
+            ∙ sym (map_joined (item_of (ending does done.host)) says.own payment.reports);
         says = says.said_is;
         remains = given_inside now input begun;
         completed = says.stays;
-        stage_is = λ opened. open_stage now done.host opened ∙ beat.stage_is ∙ payment.stage_is;
+        stage_is = λ opened. open_stage done.host opened ∙ beat.stage_is ∙ payment.stage_is;
         paid = λ is. payment.sent is ∙ ap (reports_paid does payment.calls) comes.object_is;
         dropped = payment.dropped;
       }
     where
       part : HostSoFar Object
-      part = given does now input (found does now host).host
+      part = given does now input (beginning does now host)
 
       both : HostSoFar Object
       both = then_do part (paying does now most_owed)

@@ -23,8 +23,6 @@ pub record Behaviour (Object : Type 0) : Type 0 where
   -- the first report that it owes, and the object after that was sent
   pub owed : Object → Option Report
   pub after_paid : Object → Object
-  -- its reports mustn't wait: a strict host closes the link whose window refuses one
-  pub closes_when_full : Bool
   -- the report at a place of its initial status, counted from 0: none beyond the last
   pub status : ℕ → Object → Option Report
   -- after its link was lost

@@ -1,11 +1,10 @@
 -- A host: the link of an object controller, the stage of its connection, and its object.
-use Rattle.std.specs.Prelude.{ℕ, ◌&&◌, min, not, Bool, true, false, List, [], ◌∷◌, ◌++◌, Option, Some, None, if◌then◌else◌}
+use Rattle.std.specs.Prelude.{ℕ, ◌&&◌, not, Bool, true, false, List, [], ◌∷◌, ◌++◌, Option, Some, None, if◌then◌else◌}
 use Rattle.sci_telegram.specs.declared.message.Initialisation.{Initialisation}
 use Rattle.sci_telegram.specs.declared.message.Message.TheVariants as message
 use Rattle.sci_telegram.specs.declared.telegram.Telegram.{Telegram}
 use Rattle.rasta_pdu.specs.declared.pdu.Pdu.{Pdu}
 use Rattle.rasta_core.specs.State.{LinkState, is_open}
-use Rattle.rasta_core.specs.CaughtUp.{caught_up}
 use Rattle.rasta_core.specs.Clock.{alive_until}
 use Rattle.rasta_core.specs.PdusHandedOut.{Step}
 use Rattle.rasta_core.specs.reason.Reason.{Reason}
@@ -16,8 +15,6 @@ use Rattle.object_host.specs.declared.stage.Stage.TheVariants as stage
 
 pub record HostState (Object : Type 0) : Type 0 where
   pub link : LinkState
-  -- until when the link is caught up: a reading of its clock
-  pub caught_up_until : ℕ
   -- how far the connection has come
   pub stage : Stage
   pub object : Object
@@ -26,8 +23,6 @@ pub record HostState (Object : Type 0) : Type 0 where
   pub peer_name : List ℕ
   -- the version of the telegrams that it speaks
   pub version : ℕ
-  -- the station keeps trains apart: a link that isn't caught up any more closes
-  pub is_strict : Bool
 
 -- a call that a host makes of its link; a server opens none
 pub data LinkCall : Type 0 where
@@ -97,18 +92,9 @@ module _ {Object : Type 0} where
       then record host { stage = stage.Outside; object = does.after_loss host.object }
       else host
 
-  -- what is kept of how long its link is caught up, by the link as it is now: once the clock has acted, and once the calls of a step are made
-  abbrev pub watched : ℕ → HostState Object → HostState Object
-  watched now host = record host { caught_up_until = caught_up now host.caught_up_until host.link }
-
-  -- the moment from which the object has to be restrictive: that at which its link dies; and of a strict host no later one
-  -- than that until which the link is caught up
-  abbrev pub restrictive_from : HostState Object → ℕ
-  restrictive_from host = if host.is_strict then min host.caught_up_until (alive_until host.link) else alive_until host.link
-
-  -- the object is told from when on
+  -- the object is told when its link dies
   unfoldable pub keeping : Behaviour Object → HostState Object → HostState Object
-  keeping does host = record host { object = does.after_keep (restrictive_from host) host.object }
+  keeping does host = record host { object = does.after_keep (alive_until host.link) host.object }
 
 -- the sender of a report: the section that it is about, and else the controller
 abbrev pub sender_of : Option (List ℕ) → List ℕ → List ℕ

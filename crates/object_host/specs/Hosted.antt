@@ -1,19 +1,19 @@
 -- What is always true of a host between its steps, and how it is made.
-use Rattle.std.specs.Prelude.{◌≡◌, ℕ, ◌≤◌, not, Bool, true, false, List, []}
+use Rattle.std.specs.Prelude.{◌≡◌, ℕ, ◌≤◌, not, true, false, List, []}
 use Rattle.rasta_core.specs.State.{is_open}
 use Rattle.rasta_core.specs.Clock.{alive_until}
 use Rattle.rasta_core.specs.Calls.{created}
 use Rattle.rasta_core.specs.Outbox.{OutboxState}
 use Rattle.rasta_core.specs.identity.Identity.{Identity}
 use Rattle.object_host.specs.Behaviour.{Behaviour}
-use Rattle.object_host.specs.Host.{HostState, is_completed, is_outside, keeping, restrictive_from}
+use Rattle.object_host.specs.Host.{HostState, is_completed, is_outside, keeping}
 use Rattle.object_host.specs.declared.stage.Stage.TheVariants as stage
 
 pub record IsHosted {Object : Type 0} (does : Behaviour Object) (host : HostState Object) : Type 0 where
   -- it is outside exactly where its link is in no connection
   pub outside : is_outside host.stage ≡ not (is_open host.link.phase)
-  -- the object doesn't outlive the link, nor what a strict host is caught up with
-  pub kept : does.until host.object ≤ restrictive_from host
+  -- the object doesn't outlive the link
+  pub kept : does.until host.object ≤ alive_until host.link
   -- outside, in Start and in the initialisation the object is idle
   pub idle : is_completed host.stage ≡ false → does.is_idle host.object ≡ true
 
@@ -23,25 +23,22 @@ pub record IsSteady {Object : Type 0} (does : Behaviour Object) (host : HostStat
   pub outside : is_outside host.stage ≡ true → is_open host.link.phase ≡ false
   pub idle : is_completed host.stage ≡ false → does.is_idle host.object ≡ true
 
--- the same controller for the same peer, in the same version of the telegrams, as strict as before
+-- the same controller for the same peer, in the same version of the telegrams
 pub record IsNamedAs {Object : Type 0} (old new : HostState Object) : Type 0 where
   pub own_name : new.own_name ≡ old.own_name
   pub peer_name : new.peer_name ≡ old.peer_name
   pub version : new.version ≡ old.version
-  pub is_strict : new.is_strict ≡ old.is_strict
 
 -- a host of a new link: its object is as after a loss
-unfoldable pub new_host : {Object : Type 0} → Behaviour Object → Identity → List ℕ → List ℕ → ℕ → ℕ → Object → ℕ → Bool → HostState Object
-new_host does identity own_name peer_name first_sequence_number now object version is_strict =
+unfoldable pub new_host : {Object : Type 0} → Behaviour Object → Identity → List ℕ → List ℕ → ℕ → ℕ → Object → ℕ → HostState Object
+new_host does identity own_name peer_name first_sequence_number now object version =
     keeping does (record {
       link = created identity first_sequence_number now;
-      caught_up_until = alive_until (created identity first_sequence_number now);
       stage = stage.Outside;
       object = does.after_loss object;
       own_name = own_name;
       peer_name = peer_name;
       version = version;
-      is_strict = is_strict;
     })
 
 -- a host as its callers see it, with the datagrams that its last step handed out

@@ -4,7 +4,6 @@ pub mod Meaning
 pub mod Host
 pub mod Object
 pub mod Step
-pub mod Strict
 pub mod Stepped
 pub mod Hosted
 pub mod Made

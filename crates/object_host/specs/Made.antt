@@ -1,16 +1,14 @@
 -- What the calls that a host makes of its link do, one after another, and what the items taken in them say.
-use Rattle.std.specs.Prelude.{◌≡◌, ◌⊎◌, ℕ, Bool, true, false, List, [], ◌∷◌, ◌++◌, Result, Ok, Err, is_ok, if◌then◌else◌}
+use Rattle.std.specs.Prelude.{◌≡◌, ℕ, Bool, true, false, List, [], ◌∷◌, ◌++◌, Result, Ok, Err, is_ok, if◌then◌else◌}
 use Rattle.rasta_pdu.specs.Items.{IsItem}
 use Rattle.sci_telegram.specs.TelegramRead.{reading}
 use Rattle.sci_telegram.specs.declared.fault.SciFault.{SciFault}
 use Rattle.sci_telegram.specs.declared.message.Message.{Message}
 use Rattle.sci_telegram.specs.declared.message.Message.TheVariants.{Initialisation, Point, Signal, Detection}
 use Rattle.sci_telegram.specs.declared.telegram.Telegram.{Telegram}
-use Rattle.rasta_core.specs.State.{LinkState, is_open, is_up}
-use Rattle.rasta_core.specs.Clock.{settled}
+use Rattle.rasta_core.specs.State.{LinkState, is_open}
 use Rattle.rasta_core.specs.PdusHandedOut.{Step, silent, then_do}
 use Rattle.rasta_core.specs.Calls.{ticking, closing_by, answer_to_send, sending_item, receiving}
-use Rattle.rasta_core.specs.reason.Reason.TheVariants as reason
 use Rattle.object_host.specs.declared.input.Input.{Input}
 use Rattle.object_host.specs.declared.input.Input.TheVariants as inputs
 use Rattle.object_host.specs.Host.{LinkCall, Ticks, Closes, Sends, Receives, HostSoFar}
@@ -38,15 +36,11 @@ abbrev pub AreOwn : List LinkCall → Type 0
 AreOwn [] = Unit {0}
 AreOwn (first ∷ others) = IsOwn first × AreOwn others
 
--- The calls of a step at a clock reading, which begins with this link. A datagram is received, once, and before that a link that is
--- up at the reading may be closed, since it isn't caught up any more. All other calls are own ones.
-abbrev pub AreCallsFor : ℕ → LinkState → Input → List LinkCall → Type 0
-AreCallsFor now link inputs.Tick calls = AreOwn calls
-AreCallsFor now link (inputs.Datagram bytes) calls =
-    (others : List LinkCall)
-    × ((calls ≡ Receives bytes.now ∷ others) ⊎ ((calls ≡ Closes reason.User ∷ Receives bytes.now ∷ others) × (is_up (settled now link).phase ≡ true)))
-    × AreOwn others
-AreCallsFor now link (inputs.Sense sense) calls = AreOwn calls
+-- a datagram is received first, and all other calls are own ones
+abbrev pub AreCallsFor : Input → List LinkCall → Type 0
+AreCallsFor inputs.Tick calls = AreOwn calls
+AreCallsFor (inputs.Datagram bytes) calls = (others : List LinkCall) × (calls ≡ Receives bytes.now ∷ others) × AreOwn others
+AreCallsFor (inputs.Sense sense) calls = AreOwn calls
 
 -- what is sent are items, which a link can carry
 abbrev pub AreItems : List LinkCall → Type 0

@@ -1,5 +1,5 @@
--- A step of a host, in its order: the clock with the object's tick, a close where the link isn't caught up any more, the input, the
--- owed reports, the link's tick, and what the object is told of its link at the end.
+-- A step of a host, in its order: the clock with the object's tick, the input, the owed reports, the link's tick, and
+-- what the object is told of its link at the end.
 use Rattle.std.specs.Prelude.{ℕ, zero, suc, ◌+◌, ◌==◌, nat_le, ◌&&◌, ◌||◌, not, Bool, true, false, List, [], ◌∷◌, Option, Some, None, Result, Ok, Err, is_ok, if◌then◌else◌}
 use Rattle.std.specs.Str.{bytes_eq}
 use Rattle.sci_telegram.specs.Messages.{protocol_of}
@@ -16,17 +16,14 @@ use Rattle.sci_telegram.specs.declared.message.TheConstants.{SLOW_SINCE}
 use Rattle.sci_telegram.specs.declared.message.Protocol.{Protocol}
 use Rattle.sci_telegram.specs.declared.message.Protocol.TheVariants as protocols
 use Rattle.sci_telegram.specs.declared.telegram.Telegram.{Telegram}
-use Rattle.rasta_core.specs.State.{is_open, is_up}
+use Rattle.rasta_core.specs.State.{is_open}
 use Rattle.rasta_core.specs.Clock.{settled}
 use Rattle.rasta_core.specs.Calls.{ticking, closing_by, answer_to_send, sending_item, receiving}
 use Rattle.rasta_core.specs.Receipt.{Receipt}
-use Rattle.rasta_core.specs.fault.SendFault.{SendFault}
-use Rattle.rasta_core.specs.fault.SendFault.TheVariants.{WindowFull}
-use Rattle.rasta_core.specs.reason.Reason.{Reason}
 use Rattle.rasta_core.specs.reason.Reason.TheVariants as reason
 use Rattle.object_host.specs.Behaviour.{Behaviour}
 use Rattle.object_host.specs.Meaning.{meaning}
-use Rattle.object_host.specs.Host.{HostState, HostSoFar, Ticks, Closes, Sends, Receives, silent, then_do, linked, at_stage, acting_on, is_completed, risen, fallen, keeping, watched, telegram_of, said}
+use Rattle.object_host.specs.Host.{HostState, HostSoFar, Ticks, Closes, Sends, Receives, silent, then_do, linked, at_stage, acting_on, is_completed, risen, fallen, keeping, telegram_of, said}
 use Rattle.object_host.specs.declared.meaning.Meaning.{Meaning}
 use Rattle.object_host.specs.declared.meaning.Meaning.TheVariants as meanings
 use Rattle.object_host.specs.declared.report.Report.{Report}
@@ -53,11 +50,6 @@ abbrev pub is_in_version : ℕ → Message → Bool
 is_in_version version (Signal (IndicateAspect Slow)) = nat_le SLOW_SINCE version
 is_in_version version (Signal (IndicatedAspect Slow)) = nat_le SLOW_SINCE version
 is_in_version version _ = true
-
--- a link refused an item for its window
-abbrev pub is_refused_by_window : Result Unit SendFault → Bool
-is_refused_by_window (Err WindowFull) = true
-is_refused_by_window _ = false
 
 -- a report and those after it; where there is none, those after it are none
 abbrev pub report_then : Option Report → List Report → List Report
@@ -86,13 +78,9 @@ module _ {Object : Type 0} where
   posting_all now [] host = silent host
   posting_all now (first ∷ others) host = then_do (posting now first host) (posting_all now others)
 
-  -- the link closes for this reason
-  abbrev pub closing : ℕ → Reason → HostState Object → HostSoFar Object
-  closing now why host = linked (Closes why) (closing_by now why host.link) host
-
   -- what doesn't belong there closes the link
   unfoldable pub violating : ℕ → HostState Object → HostSoFar Object
-  violating now host = closing now reason.State host
+  violating now host = linked (Closes reason.State) (closing_by now reason.State host.link) host
 
   -- the version is answered; nothing more is taken where it is another one
   unfoldable pub answering : Behaviour Object → ℕ → ℕ → HostState Object → HostSoFar Object
@@ -162,23 +150,14 @@ module _ {Object : Type 0} where
   abbrev pub paid : Behaviour Object → HostState Object → HostState Object
   paid does host = record host { object = does.after_paid host.object }
 
-  -- what becomes of a link that refused a report: a strict host closes it where the window did so, and the object's reports
-  -- mustn't wait
-  abbrev pub closes_when_refused : Behaviour Object → Result Unit SendFault → HostState Object → Bool
-  closes_when_refused does answer host = host.is_strict && does.closes_when_full && is_refused_by_window answer
-
-  unfoldable pub after_refusal : Behaviour Object → ℕ → Result Unit SendFault → HostState Object → HostSoFar Object
-  after_refusal does now answer host = if closes_when_refused does answer host then closing now reason.Window host else silent host
-
   -- The first owed report: it is sent once the initialisation was completed, and stays owed where the link refuses it;
   -- before, nothing is owed.
   abbrev pub paying_first : Behaviour Object → ℕ → Option Report → HostState Object → HostSoFar Object
   paying_first does now None host = silent host
   paying_first does now (Some report) host =
       if not (is_completed host.stage) then silent (paid does host) else
-      let answer = answer_to_send now host.link
-      in let sent = posting now report host
-      in if is_ok answer then record sent { host = paid does sent.host } else then_do sent (after_refusal does now answer)
+      let sent = posting now report host
+      in if is_ok (answer_to_send now host.link) then record sent { host = paid does sent.host } else sent
 
   -- whether it was there and is owed no longer
   abbrev pub goes_on : ℕ → Option Report → HostState Object → Bool
@@ -192,25 +171,11 @@ module _ {Object : Type 0} where
       let first = paying_first does now (does.owed host.object) host
       in if goes_on now (does.owed host.object) host then then_do first (paying does now more) else first
 
-  -- how a step begins: the clock rules of the link, a loss that they bring, how long the link is caught up, and the object's tick
+  -- how a step begins: the clock rules of the link, a loss that they bring, and the object's tick
   unfoldable pub beginning : Behaviour Object → ℕ → HostState Object → HostState Object
   beginning does now host =
-      let clocked = watched now (fallen does (record host { link = settled now host.link }))
+      let clocked = fallen does (record host { link = settled now host.link })
       in record clocked { object = does.after_tick now clocked.object }
-
-  -- a strict host whose link is up isn't caught up any more
-  abbrev pub is_behind : ℕ → HostState Object → Bool
-  is_behind now host = host.is_strict && is_up host.link.phase && nat_le host.caught_up_until now
-
-  -- such a link closes, and the object is told of the loss
-  unfoldable pub closing_behind : Behaviour Object → ℕ → HostState Object → HostSoFar Object
-  closing_behind does now host =
-      let closed = closing now reason.User host
-      in if is_behind now host then record closed { host = fallen does closed.host } else silent host
-
-  -- the host as the input of a step finds it
-  abbrev pub found : Behaviour Object → ℕ → HostState Object → HostSoFar Object
-  found does now host = closing_behind does now (beginning does now host)
 
   unfoldable pub given : Behaviour Object → ℕ → Input → HostState Object → HostSoFar Object
   given does now inputs.Tick host = silent host
@@ -222,17 +187,13 @@ module _ {Object : Type 0} where
   beating now inputs.Tick host = linked Ticks (ticking now host.link) host
   beating now _ host = silent host
 
-  -- how it ends: a loss in the step itself, how long the link is caught up, and from when on the object is restrictive
-  abbrev pub ending : Behaviour Object → ℕ → HostState Object → HostState Object
-  ending does now host = keeping does (watched now (fallen does host))
-
-  -- how a step goes on, from the host that its input finds
-  unfoldable pub going_on : Behaviour Object → ℕ → Input → HostState Object → HostSoFar Object
-  going_on does now input host =
-      let heard = given does now input host
-      in let told = then_do heard (paying does now most_owed)
-      in let done = then_do told (beating now input)
-      in record done { host = ending does now done.host }
+  -- how it ends: a loss in the step itself, and the moment at which the link dies
+  abbrev pub ending : Behaviour Object → HostState Object → HostState Object
+  ending does host = keeping does (fallen does host)
 
   unfoldable pub host_step : Behaviour Object → ℕ → Input → HostState Object → HostSoFar Object
-  host_step does now input host = then_do (found does now host) (going_on does now input)
+  host_step does now input host =
+      let heard = given does now input (beginning does now host)
+      in let told = then_do heard (paying does now most_owed)
+      in let done = then_do told (beating now input)
+      in record done { host = ending does done.host }

@@ -5,12 +5,12 @@ use Rattle.sci_telegram.specs.Telegrams.{writing}
 use Rattle.sci_telegram.specs.declared.message.Agreement.{Agreement}
 use Rattle.sci_telegram.specs.declared.message.Initialisation.TheVariants.{StartInitialisation, InitialisationCompleted, VersionAnswer}
 use Rattle.rasta_core.specs.State.{is_open}
-use Rattle.rasta_core.specs.Clock.{settled}
+use Rattle.rasta_core.specs.Clock.{alive_until, settled}
 use Rattle.object_host.specs.Behaviour.{Behaviour}
-use Rattle.object_host.specs.Host.{HostState, HostSoFar, is_completed, is_outside, restrictive_from, said, telegram_of}
+use Rattle.object_host.specs.Host.{HostState, HostSoFar, is_completed, is_outside, said, telegram_of}
 use Rattle.object_host.specs.Made.{items_given}
 use Rattle.object_host.specs.Object.{ObjectCall, Takes, Ticks, Senses, Keeps, Pays, Loses, contacts_in, object_after, object_after_all, reports_paid, telegrams_in}
-use Rattle.object_host.specs.Step.{beginning, found, given, initial_status, is_behind, most_objects}
+use Rattle.object_host.specs.Step.{beginning, given, initial_status, most_objects}
 use Rattle.object_host.specs.declared.input.Input.{Input}
 use Rattle.object_host.specs.declared.input.Input.TheVariants as inputs
 use Rattle.object_host.specs.declared.report.Report.{Report}
@@ -82,21 +82,15 @@ module _ {Object : Type 0} where
     -- it says nothing where the initialisation was completed before
     pub late : is_completed host.stage ≡ true → own ≡ []
 
-  -- a link that isn't caught up any more is lost, too
-  abbrev pub loses_behind : ℕ → HostState Object → Bool
-  loses_behind now host = is_behind now host && not (is_outside host.stage)
-
-  -- how a step begins: before anything else a loss that the clock rules bring, then the clock reading, and then the loss of a link
-  -- that isn't caught up any more
-  abbrev pub calls_begun : Behaviour Object → ℕ → HostState Object → List ObjectCall
-  calls_begun does now old =
-      loss_where (has_lost (record old { link = settled now old.link })) ++ Ticks now ∷ loss_where (loses_behind now (beginning does now old))
+  -- how a step begins: before anything else a loss that the clock rules bring, then the clock reading
+  abbrev pub calls_begun : ℕ → HostState Object → List ObjectCall
+  calls_begun now old = loss_where (has_lost (record old { link = settled now old.link })) ++ Ticks now ∷ []
 
   -- The calls of an object in a step: what begins it, what comes and what is paid, a loss in the step itself, and at last
-  -- the moment from which it has to be restrictive.
-  abbrev pub calls_in_step : Behaviour Object → ℕ → HostState Object → List ObjectCall → Bool → HostState Object → List ObjectCall
-  calls_in_step does now old during is_lost new =
-      calls_begun does now old ++ (during ++ (loss_where is_lost ++ Keeps (restrictive_from new) ∷ []))
+  -- the moment at which the link dies.
+  abbrev pub calls_in_step : ℕ → HostState Object → List ObjectCall → Bool → HostState Object → List ObjectCall
+  calls_in_step now old during is_lost new =
+      calls_begun now old ++ (during ++ (loss_where is_lost ++ Keeps (alive_until new.link) ∷ []))
 
   pub record IsToldIn (does : Behaviour Object) (now : ℕ) (input : Input) (host : HostState Object) (part : HostSoFar Object) : Type 0 where
     -- the object after the step is that before it after these calls: what comes, and after it what is paid
@@ -105,30 +99,30 @@ module _ {Object : Type 0} where
     pub are_coming : AreComing now comes
     pub are_payments : ArePayments pays
     pub is_lost : Bool
-    pub begun_is : (found does now host).host.object ≡ object_after_all does (calls_begun does now host) host.object
-    pub object_is : part.host.object ≡ object_after_all does (calls_in_step does now host (comes ++ pays) is_lost part.host) host.object
+    pub begun_is : (beginning does now host).object ≡ object_after_all does (calls_begun now host) host.object
+    pub object_is : part.host.object ≡ object_after_all does (calls_in_step now host (comes ++ pays) is_lost part.host) host.object
     -- the telegrams that it took are those of the step, and there are none before the initialisation was completed
     pub takes : telegrams_in comes ≡ part.told
-    pub untold : is_completed (given does now input (found does now host).host).host.stage ≡ false → part.told ≡ []
+    pub untold : is_completed (given does now input (beginning does now host)).host.stage ≡ false → part.told ≡ []
     -- one that doesn't fit closes the link
-    pub fit : is_open part.host.link.phase ≡ true → AllFit does comes (found does now host).host.object
+    pub fit : is_open part.host.link.phase ≡ true → AllFit does comes (beginning does now host).object
     -- the contacts that it sensed are those of the input
     pub senses : contacts_in comes ≡ contacts_of input
-    -- a link that stays open isn't lost, and one that was open behind the clock or that what comes opens, and closes, is
+    -- a link that stays open isn't lost, and one that was open by the clock rules or that what comes opens, and closes, is
     pub stays : is_open part.host.link.phase ≡ true → is_lost ≡ false
-    pub falls : is_outside (given does now input (found does now host).host).host.stage ≡ false → is_open part.host.link.phase ≡ false → is_lost ≡ true
+    pub falls : is_outside (given does now input (beginning does now host)).host.stage ≡ false → is_open part.host.link.phase ≡ false → is_lost ≡ true
     -- the items given: first what the host says itself to what comes, then the reports that were sent
     pub own : List Report
     pub reports : List Report
     pub gives : items_given now part.calls (settled now host.link) ≡ map (item_of part.host) (own ++ reports)
-    pub says : IsSaid does (found does now host).host (given does now input (found does now host).host).host.stage own
+    pub says : IsSaid does (beginning does now host) (given does now input (beginning does now host)).host.stage own
     -- what comes leaves no connection, and no initialisation that was completed; while the link is open the stage is the one
     -- that it leads to
-    pub remains : is_outside (found does now host).host.stage ≡ false → is_outside (given does now input (found does now host).host).host.stage ≡ false
-    pub completed : is_completed (found does now host).host.stage ≡ true → is_completed (given does now input (found does now host).host).host.stage ≡ true
-    pub stage_is : is_open part.host.link.phase ≡ true → part.host.stage ≡ (given does now input (found does now host).host).host.stage
+    pub remains : is_outside (beginning does now host).stage ≡ false → is_outside (given does now input (beginning does now host)).host.stage ≡ false
+    pub completed : is_completed (beginning does now host).stage ≡ true → is_completed (given does now input (beginning does now host)).host.stage ≡ true
+    pub stage_is : is_open part.host.link.phase ≡ true → part.host.stage ≡ (given does now input (beginning does now host)).host.stage
     -- each report that was paid was sent, as it was owed after what came, where that has completed the initialisation;
     -- otherwise all were dropped
-    pub paid : is_completed (given does now input (found does now host).host).host.stage ≡ true
-        → reports ≡ reports_paid does pays (object_after_all does comes (found does now host).host.object)
-    pub dropped : is_completed (given does now input (found does now host).host).host.stage ≡ false → reports ≡ []
+    pub paid : is_completed (given does now input (beginning does now host)).host.stage ≡ true
+        → reports ≡ reports_paid does pays (object_after_all does comes (beginning does now host).object)
+    pub dropped : is_completed (given does now input (beginning does now host)).host.stage ≡ false → reports ≡ []

@@ -32,7 +32,7 @@ pub trait Controller: Drop {
     fn sense(&mut self, now: Millis, sense: Sense)
         ensures { self.new ≡ behaviour.after_sense now sense self.old };
 
-    /// Takes the moment from which it has to be restrictive: that at which its link dies, or isn't caught up any more.
+    /// Takes the moment from which it has to be restrictive: that at which its link dies.
     fn keep(&mut self, until: Millis)
         ensures { self.new ≡ behaviour.after_keep until self.old };
 
@@ -43,10 +43,6 @@ pub trait Controller: Drop {
     /// The first report that it owes was sent.
     fn paid(&mut self)
         ensures { self.new ≡ behaviour.after_paid self.old };
-
-    /// Whether its reports mustn't wait: where trains are kept apart, the link whose window refuses one closes.
-    fn closes_when_full(&self) -> bool
-        ensures { result ≡ behaviour.closes_when_full };
 
     /// The report at this place of its initial status, counted from 0, and none beyond the last.
     fn status(&self, place: usize) -> Option<Report>

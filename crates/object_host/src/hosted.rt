@@ -52,7 +52,7 @@ fn empty(outbox: &mut Outbox)
 
 impl<C: Controller> Hosted<C> {
     ghost use Rattle.std.specs.Borrow.{sem};
-    ghost use Rattle.object_host.specs.Host.{is_completed, restrictive_from};
+    ghost use Rattle.object_host.specs.Host.{is_completed};
     ghost use Rattle.object_host.specs.Made.{AreItems};
     ghost use Rattle.object_host.specs.Refused.{LeavesRefused};
     ghost use Rattle.object_host.specs.Step.{host_step};
@@ -60,18 +60,16 @@ impl<C: Controller> Hosted<C> {
     ghost use Rattle.object_host.specs.Hosted.{empty_outbox, most_in_step, new_host};
 
     /// A controller of these names and identities, with a link that isn't in a connection and begins so. The object is as
-    /// after a loss. `version` is the version of the telegrams: version 2 has the aspect slow, version 1 doesn't. `is_strict`
-    /// is whether the station keeps trains apart, as all its nodes do or none.
-    #[tactic(auto, unfolding(crate::specs::Hosted::new_host))]
+    /// after a loss. `version` is the version of the telegrams: version 2 has the aspect slow, version 1 doesn't.
+    #[tactic(auto, unfolding(crate::specs::Hosted::new_host, crate::specs::Host::keeping))]
     pub fn new(
         alloc: Global,
         parties: Parties,
         start: Start,
         object: C,
         version: u8,
-        is_strict: bool,
     ) -> Result<Hosted<C>, AllocError>
-        ensures { IfOk result (λ hosted. hosted ≡ record { host = new_host C.behaviour (record { role = Server; own = parties.own; partner = parties.partner; key = parties.key }) parties.own_name parties.peer_name start.first_sequence_number start.now object version is_strict; outbox = empty_outbox }) }
+        ensures { IfOk result (λ hosted. hosted ≡ record { host = new_host C.behaviour (record { role = Server; own = parties.own; partner = parties.partner; key = parties.key }) parties.own_name parties.peer_name start.first_sequence_number start.now object version; outbox = empty_outbox }) }
     {
         let Parties {
             own,
@@ -87,18 +85,15 @@ impl<C: Controller> Hosted<C> {
         let outbox = Outbox::for_datagrams(alloc, DATAGRAMS)?;
         let mut object = object;
         object.lost();
-        let caught_up_until = link.alive_until();
-        let mut host = Host {
+        object.keep(link.alive_until());
+        let host = Host {
             link,
-            caught_up_until,
             stage: Stage::Outside,
             object,
             own_name: parties.own_name,
             peer_name: parties.peer_name,
             version,
-            is_strict,
         };
-        host.keep();
         Ok(Hosted { host, outbox })
     }
 
@@ -110,12 +105,10 @@ impl<C: Controller> Hosted<C> {
     }
 
     /// The field object. At and past the moment at which the link dies it is restrictive, stepped or not, and as
-    /// long as the initialisation isn't completed at every clock reading. Of a strict host it is restrictive, too, at and past
-    /// the moment until which the link is caught up.
+    /// long as the initialisation isn't completed at every clock reading.
     pub fn object(&self) -> &C
         ensures object { result.now ≡ self.now.host.object }
         ensures dies { (now : ℕ) → alive_until self.now.host.link ≤ now → C.behaviour.is_restrictive now self.now.host.object ≡ true }
-        ensures behind { (now : ℕ) → restrictive_from self.now.host ≤ now → C.behaviour.is_restrictive now self.now.host.object ≡ true }
         ensures uninitialised { (now : ℕ) → is_completed self.now.host.stage ≡ false → C.behaviour.is_restrictive now self.now.host.object ≡ true }
     {
         &self.host.object

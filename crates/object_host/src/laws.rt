@@ -1,24 +1,23 @@
 //! What holds of every step of a host, for every lawful object.
 
-ghost use Rattle.std.specs.Prelude.{◌≡◌, ◌≤◌, ℕ, Bool, true, false, List};
+ghost use Rattle.std.specs.Prelude.{◌≡◌, ◌≤◌, ℕ, true, false, List};
 ghost use Rattle.rasta_core.specs.Clock.{settled};
 ghost use Rattle.rasta_core.specs.State.{LinkState, is_open};
 ghost use Rattle.rasta_core.specs.identity.Identity.{Identity};
-ghost use Rattle.object_host.specs.Host.{HostState, LinkCall, is_completed, silent};
+ghost use Rattle.object_host.specs.Host.{HostState, LinkCall, is_completed};
 ghost use Rattle.object_host.specs.Hosted.{IsHosted, IsNamedAs, IsSteady, new_host};
 ghost use Rattle.object_host.specs.Made.{ActsOn, AreCallsFor, AreOwn, IsMadeOf, calls_made, items_taken};
-ghost use Rattle.object_host.specs.Step.{beginning, found, host_step};
-ghost use Rattle.object_host.specs.Strict.{ClosesFirst, IsBehind};
+ghost use Rattle.object_host.specs.Step.{host_step};
 ghost use Rattle.object_host.specs.Told.{IsToldIn};
 ghost use Rattle.object_host.specs.declared.input.Input.{Input};
 
 use crate::controller::Controller;
 
-/// A step is a list of calls of the link at its clock, once the clock rules were applied. A datagram is received once, and
-/// before that a link that is up may be closed; all other calls are the host's own.
+/// A step is a list of calls of the link at its clock, once the clock rules were applied. A datagram is received first;
+/// all other calls are the host's own.
 #[tactic(auto, using(crate::proofs::Made::step_made, crate::proofs::Made::step_calls))]
 pub fn step_is_calls<C: Controller>()
-    ensures first { (now : ℕ) (input : Input) (host : HostState C) → AreCallsFor now host.link input (host_step C.behaviour now input host).calls }
+    ensures first { (now : ℕ) (input : Input) (host : HostState C) → AreCallsFor input (host_step C.behaviour now input host).calls }
     ensures made { (now : ℕ) (input : Input) (host : HostState C) → IsMadeOf now (settled now host.link) (host_step C.behaviour now input host) }
 {}
 
@@ -40,7 +39,7 @@ pub fn step_is_told_to_the_object<C: Controller>()
 /// was completed it stays so while the link is open.
 #[tactic(auto, using(crate::proofs::Keeps::step_names, crate::proofs::Keeps::step_completed))]
 pub fn steps_keep_a_host<C: Controller>()
-    ensures new { (identity : Identity) (own_name peer_name : List ℕ) (first_sequence_number now : ℕ) (object : C) (version : ℕ) (is_strict : Bool) → IsHosted C.behaviour (new_host C.behaviour identity own_name peer_name first_sequence_number now object version is_strict) }
+    ensures new { (identity : Identity) (own_name peer_name : List ℕ) (first_sequence_number now : ℕ) (object : C) (version : ℕ) → IsHosted C.behaviour (new_host C.behaviour identity own_name peer_name first_sequence_number now object version) }
     ensures steady { (host : HostState C) → IsHosted C.behaviour host → IsSteady C.behaviour host }
     ensures clocked { (now : ℕ) (host : HostState C) → IsSteady C.behaviour host → IsSteady C.behaviour (record host { link = settled now host.link }) }
     ensures hosted { (now : ℕ) (input : Input) (host : HostState C) → IsSteady C.behaviour host → IsHosted C.behaviour (host_step C.behaviour now input host).host }
@@ -54,14 +53,6 @@ pub fn steps_keep_a_host<C: Controller>()
 pub fn step_settles_first<C: Controller>()
     ensures { (earlier now : ℕ) (input : Input) (host : HostState C) → earlier ≤ now
         → host_step C.behaviour now input (record host { link = settled earlier host.link }) ≡ host_step C.behaviour now input host }
-{}
-
-/// A strict host whose link isn't caught up any more closes it with reason 0 before the input acts, and its object is told of
-/// the loss. No other link is closed for that.
-#[tactic(auto, using(crate::proofs::Behind::closes_first, crate::proofs::Behind::caught_up_alike))]
-pub fn who_is_behind_closes_first<C: Controller>()
-    ensures behind { (now : ℕ) (input : Input) (host : HostState C) → IsBehind now (beginning C.behaviour now host) → ClosesFirst C.behaviour now host (host_step C.behaviour now input host) }
-    ensures otherwise { (now : ℕ) (host : HostState C) → (IsBehind now (beginning C.behaviour now host) → ⊥) → found C.behaviour now host ≡ silent (beginning C.behaviour now host) }
 {}
 
 /// Own calls leave a link that is in no connection where it is.

@@ -22,7 +22,7 @@ pub use hosted::Hosted;
 pub use input::Input;
 pub use laws::{
     own_calls_open_nothing, step_is_calls, step_is_told_to_the_object, step_settles_first,
-    step_tells_what_was_taken, steps_keep_a_host, who_is_behind_closes_first,
+    step_tells_what_was_taken, steps_keep_a_host,
 };
 pub use parties::Parties;
 pub use report::Report;

@@ -2,60 +2,31 @@
 
 ghost use Rattle.std.specs.Prelude.{◌≡◌, ◌+◌};
 ghost use Rattle.rasta_core.specs.Outbox.{HasRoomFor};
-ghost use Rattle.object_host.specs.Step.{after_refusal, closes_when_refused, goes_on, is_refused_by_window, most_owed, paying, paying_first, posting};
+ghost use Rattle.object_host.specs.Step.{goes_on, most_owed, paying, paying_first, posting};
 ghost use Rattle.object_host.specs.inside.Performed.{IsPerformed, may_send};
 
 use crate::controller::Controller;
 use crate::host::Host;
-use rasta_core::{Millis, Outbox, Reason, SendFault};
+use rasta_core::{Millis, Outbox};
 
 /// How many owed reports a step sends at most: the window of a link.
 const MOST_OWED: usize = 20;
 
-fn is_refused_by_window(answer: Result<(), SendFault>) -> bool
-    ensures { result ≡ is_refused_by_window answer }
-{
-    matches!(answer, Err(SendFault::WindowFull))
-}
-
 impl<C: Controller> Host<C> {
-    /// Whether this answer closes the link: a strict host's, where the window refused a report and the reports mustn't wait.
-    fn closes_when_refused(&self, answer: Result<(), SendFault>) -> bool
-        ensures { result ≡ closes_when_refused C.behaviour answer self.now }
-    {
-        self.is_strict && self.object.closes_when_full() && is_refused_by_window(answer)
-    }
-
-    /// The link refused a report, and closes where that answer closes it.
-    #[tactic(auto, unfolding(crate::specs::Step::after_refusal))]
-    fn react(&mut self, now: Millis, answer: Result<(), SendFault>, outbox: &mut Outbox)
-        requires at { self.old.link.clock ≡ now }
-        requires room { HasRoomFor 24 outbox.old }
-        ensures { IsPerformed (may_send self.old.link) now (after_refusal C.behaviour now answer self.old) self.old self.new outbox.old outbox.new }
-    {
-        if self.closes_when_refused(answer) {
-            self.close(now, Reason::Window, outbox);
-        }
-    }
-
     /// The first owed report is sent, once the initialisation was completed. Before, nothing is owed. Answers whether
-    /// there was one that is owed no longer. One that the window refuses stays owed, or closes the link.
+    /// there was one that is owed no longer.
     #[tactic(auto, using(crate::proofs::OutboxPosts::posting, crate::proofs::UnderWay::items_joined))]
     fn pay_first(&mut self, now: Millis, outbox: &mut Outbox) -> bool
         requires at { self.old.link.clock ≡ now }
-        requires room { HasRoomFor (may_send self.old.link + 24) outbox.old }
+        requires room { HasRoomFor 24 outbox.old }
         ensures performed { IsPerformed (may_send self.old.link) now (paying_first C.behaviour now (C.behaviour.owed self.old.object) self.old) self.old self.new outbox.old outbox.new }
         ensures answer { result ≡ goes_on now (C.behaviour.owed self.old.object) self.old }
     {
         let Some(report) = self.object.owed() else {
             return false;
         };
-        if self.stage.is_completed() {
-            let answer = self.post(now, &report, outbox);
-            if answer.is_err() {
-                self.react(now, answer, outbox);
-                return false;
-            }
+        if self.stage.is_completed() && self.post(now, &report, outbox).is_err() {
+            return false;
         }
         self.object.paid();
         true

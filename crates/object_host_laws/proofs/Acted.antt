@@ -103,7 +103,7 @@ module _ {Object : Type 0} (does : Behaviour Object) where
           told_is = more_told;
         }
 
-  pub step_acted : OpensNothing → ((now : ℕ) (input : Input) (host : HostState Object) → AreCallsFor now host.link input (host_step does now input host).calls) →
+  pub step_acted : OpensNothing → ((now : ℕ) (input : Input) (host : HostState Object) → AreCallsFor input (host_step does now input host).calls) →
       ((now : ℕ) (input : Input) (host : HostState Object) → IsMadeOf now (settled now host.link) (host_step does now input host)) →
       ((now : ℕ) (input : Input) (host : HostState Object) → ActsOn (items_taken now (host_step does now input host).calls (settled now host.link)) (host_step does now input host)) →
       (input : Input) (connection : ℕ) (ends : Ends) (host : HostState Object) (acted : List (List ℕ)) (told : List Telegram) → host.link ≡ ends.server.link →
@@ -115,7 +115,7 @@ module _ {Object : Type 0} (does : Behaviour Object) where
       let now = now_of ends
       in let link = ends.server.link
       in let part = host_step does now input host
-      in let first : AreCallsFor now link input part.calls = subst (λ l. AreCallsFor now l input part.calls) link_is (calls_for now input host)
+      in let first = calls_for now input host
       in let settled_link : settled now host.link ≡ link = ap (settled now) link_is ∙ is_settled
       in let reached : (called_all connection part.calls ends).server.link ≡ part.host.link =
       links_after connection part.calls ends ∙ ap (λ l. (calls_made now part.calls l).link) (sym settled_link) ∙ sym (made_of now input host).link_is

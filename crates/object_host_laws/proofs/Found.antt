@@ -7,9 +7,8 @@ use Rattle.rasta_core.specs.State.{LinkState, is_open}
 use Rattle.rasta_core.specs.Clock.{settled}
 use Rattle.rasta_core.specs.Ends.{reading_of}
 use Rattle.object_host.specs.Host.{HostState, HostSoFar, is_completed, is_outside}
-use Rattle.object_host.specs.Step.{beginning, is_behind}
-use Rattle.object_host.specs.Step.{found as found_first}
-use Rattle.object_host.specs.Told.{has_lost, item_of, loses_behind}
+use Rattle.object_host.specs.Step.{beginning}
+use Rattle.object_host.specs.Told.{has_lost, item_of}
 use Rattle.object_host.specs.declared.input.Input.{Input}
 use Rattle.object_host.specs.declared.report.Report.{Report}
 use Rattle.object_host_laws.specs.World.{World, host_of}
@@ -18,10 +17,9 @@ use Rattle.point_ctl.specs.declared.progress.Progress.TheVariants.{Answered}
 use Rattle.point_ctl.specs.Controlled.{point_behaviour}
 use Rattle.point_ctl.specs.Drive.{PointState, limited, move_in}
 use Rattle.point_ctl.specs.History.{unanswered}
-use Rattle.object_host_laws.specs.Point.{IsFound, IsPointStep, IsReported, found_by, found_host, is_moving, link_found, moves_in}
-use Rattle.object_host_laws.proofs.BehindHosts.{LawOfBehind, found_link, not_behind}
+use Rattle.object_host_laws.specs.Point.{IsFound, IsPointStep, IsReported, found_by, found_host, is_moving, moves_in}
 use Rattle.object_host_laws.proofs.Moves.{limit_moves, limit_waits}
-use Rattle.object_host_laws.proofs.Points.{begun_stage, early_outside, found_stage}
+use Rattle.object_host_laws.proofs.Points.{begun_stage, early_outside}
 
 -- the items of reports depend on the names of the host alone
 pub items_same : (reports : List Report) (old new : HostState PointState) → new.own_name ≡ old.own_name → new.peer_name ≡ old.peer_name →
@@ -54,7 +52,7 @@ nothing_before now host answered = record {
   drive = λ moves. absurd (false≢true (sym (ap (λ (p : Progress). is_some (move_in p)) answered) ∙ moves));
 }
 
-module _ (law : LawOfBehind point_behaviour) (input : Input) (part : HostSoFar PointState) (world : World PointState)
+module _ (input : Input) (part : HostSoFar PointState) (world : World PointState)
     (step : IsPointStep (reading_of world.ends.server.clock) input (host_of world) part)
     (is_settled : settled (reading_of world.ends.server.clock) world.ends.server.link ≡ world.ends.server.link) (reported : IsReported world)
   where
@@ -67,35 +65,19 @@ module _ (law : LawOfBehind point_behaviour) (input : Input) (part : HostSoFar P
     abbrev found : PointState
     found = found_by now host
 
-    abbrev begun : HostState PointState
-    begun = beginning point_behaviour now host
-
     lost_is : has_lost (record host { link = settled now host.link }) ≡ (not (is_outside world.stage) && not (is_open world.ends.server.link.phase))
     lost_is = ap (λ (l : LinkState). not (is_outside world.stage) && not (is_open l.phase)) is_settled
 
-    no_loss : (out : Bool) → is_open world.ends.server.link.phase ≡ true → (not out && not (is_open world.ends.server.link.phase)) ≡ false
-    no_loss true is = refl
-    no_loss false is = ap not is
-
-    -- where it isn't behind the link is found as it was
-    pub link_same : is_behind now begun ≡ false → link_found now host ≡ world.ends.server.link
-    link_same none = found_link point_behaviour law now host none ∙ is_settled
-
-    stays : is_behind now begun ≡ false → loses_behind now begun ≡ false
-    stays none = ap (λ b. b && not (is_outside begun.stage)) none
-
     -- in a connection
-    pub found_inside : is_open (link_found now host).phase ≡ true → IsFound now world.ends.server.given world.told host
-    found_inside found_open =
-        let none = not_behind point_behaviour law now host found_open
-        in let opened : is_open world.ends.server.link.phase ≡ true = ap (λ (l : LinkState). is_open l.phase) (sym (link_same none)) ∙ found_open
-        in let before = reported.inside opened
+    pub found_inside : is_open world.ends.server.link.phase ≡ true → IsFound now world.ends.server.given world.told host
+    found_inside opened =
+        let before = reported.inside opened
         in let not_lost : has_lost (record host { link = settled now host.link }) ≡ false = lost_is ∙ no_loss (is_outside world.stage) opened
-        in let ticked = step.stays not_lost (stays none)
+        in let ticked = step.stays not_lost
         in let same : unanswered found.progress ≡ unanswered world.object.progress =
         ap (λ (p : PointState). unanswered p.progress) ticked ∙ limit_waits now world.object.progress
-        in let not_yet : is_completed (found_first point_behaviour now host).host.stage ≡ false → is_completed world.stage ≡ false =
-        λ early. ap is_completed (sym (found_stage now host not_lost (stays none))) ∙ early
+        in let not_yet : is_completed (beginning point_behaviour now host).stage ≡ false → is_completed world.stage ≡ false =
+        λ early. ap is_completed (sym (begun_stage now host not_lost)) ∙ early
         in record {
           reporting = record {
             stood = before.stood;
@@ -113,37 +95,19 @@ module _ (law : LawOfBehind point_behaviour) (input : Input) (part : HostSoFar P
           answered = λ early. ap (λ (p : PointState). p.progress) ticked ∙ ap (limited now) (reported.answered (not_yet early));
           drive = λ moves. limit_moves now world.object.progress (ap is_moving (sym ticked) ∙ moves);
         }
+      where
+        no_loss : (out : Bool) → is_open world.ends.server.link.phase ≡ true → (not out && not (is_open world.ends.server.link.phase)) ≡ false
+        no_loss true is = refl
+        no_loss false is = ap not is
 
     -- out of one every move is answered
-    pub out_answered : is_open (link_found now host).phase ≡ false → found.progress ≡ Answered
-    out_answered shut = by_close (loses_behind now begun) refl where
-      -- the step finds it as it was, and it was outside
-      by_stage : has_lost (record host { link = settled now host.link }) ≡ false → loses_behind now begun ≡ false → is_outside world.stage ≡ true → found.progress ≡ Answered
-      by_stage kept none out = ap (λ (p : PointState). p.progress) (step.stays kept none) ∙ ap (limited now) (reported.answered (early_outside world.stage out))
+    pub out_answered : is_open world.ends.server.link.phase ≡ false → found.progress ≡ Answered
+    out_answered closed = by (is_outside world.stage) refl where
+      by : (b : Bool) → is_outside world.stage ≡ b → found.progress ≡ Answered
+      by true out =
+          ap (λ (p : PointState). p.progress) (step.stays (lost_is ∙ ap (λ b. not b && not (is_open world.ends.server.link.phase)) out))
+          ∙ ap (limited now) (reported.answered (early_outside world.stage out))
+      by false in_it = ap (λ (p : PointState). p.progress) (step.lost (lost_is ∙ ap (λ b. not b && not (is_open world.ends.server.link.phase)) in_it ∙ ap not closed))
 
-      -- not behind: the link was closed
-      closed_before : loses_behind now begun ≡ false → is_behind now begun ≡ false → has_lost (record host { link = settled now host.link }) ≡ false → (out : Bool) → is_outside world.stage ≡ out → found.progress ≡ Answered
-      closed_before none not_closed kept true out = by_stage kept none out
-      closed_before none not_closed kept false in_it =
-          let closed : is_open world.ends.server.link.phase ≡ false = ap (λ (l : LinkState). is_open l.phase) (sym (link_same not_closed)) ∙ shut
-          in absurd (false≢true (sym kept ∙ lost_is ∙ (λ i. not (in_it i) && not (closed i))))
-
-      -- behind, and outside already
-      outside_before : loses_behind now begun ≡ false → is_behind now begun ≡ true → has_lost (record host { link = settled now host.link }) ≡ false → (out : Bool) → is_outside begun.stage ≡ out → found.progress ≡ Answered
-      outside_before none behind kept true out = by_stage kept none (ap is_outside (sym (begun_stage now host kept)) ∙ out)
-      outside_before none behind kept false in_it = absurd (false≢true (sym none ∙ (λ i. behind i && not (in_it i))))
-
-      by_behind : loses_behind now begun ≡ false → has_lost (record host { link = settled now host.link }) ≡ false → (b : Bool) → is_behind now begun ≡ b → found.progress ≡ Answered
-      by_behind none kept true behind = outside_before none behind kept (is_outside begun.stage) refl
-      by_behind none kept false not_closed = closed_before none not_closed kept (is_outside world.stage) refl
-
-      by_loss : loses_behind now begun ≡ false → (b : Bool) → has_lost (record host { link = settled now host.link }) ≡ b → found.progress ≡ Answered
-      by_loss none true lost = ap (λ (p : PointState). p.progress) (step.lost lost)
-      by_loss none false kept = by_behind none kept (is_behind now begun) refl
-
-      by_close : (b : Bool) → loses_behind now begun ≡ b → found.progress ≡ Answered
-      by_close true closes = ap (λ (p : PointState). p.progress) (step.closed closes)
-      by_close false none = by_loss none (has_lost (record host { link = settled now host.link })) refl
-
-    pub found_outside : is_open (link_found now host).phase ≡ false → IsFound now [] [] host
+    pub found_outside : is_open world.ends.server.link.phase ≡ false → IsFound now [] [] host
     found_outside closed = nothing_before now host (out_answered closed)

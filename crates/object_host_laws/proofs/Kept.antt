@@ -22,7 +22,7 @@ use Rattle.rasta_core.specs.Events.{Start}
 use Rattle.rasta_core.specs.Names.{Names, identity_of}
 use Rattle.rasta_core.specs.identity.Identity.{Identity}
 use Rattle.rasta_core.specs.identity.Role.TheVariants as role
-use Rattle.object_host.specs.Host.{HostState, HostSoFar, is_completed, is_outside, keeping, restrictive_from, said}
+use Rattle.object_host.specs.Host.{HostState, HostSoFar, is_completed, is_outside, keeping, said}
 use Rattle.object_host.specs.Hosted.{IsHosted, IsSteady, new_host}
 use Rattle.object_host.specs.Made.{items_given}
 use Rattle.object_host.specs.Told.{AreSomeOf, IsVersionAnswer}
@@ -37,8 +37,7 @@ use Rattle.point_ctl.specs.History.{unanswered}
 use Rattle.object_host_laws.specs.Point.{GivesStanding, IsFinal, IsPointStep, IsReported, IsReporting, TellsOnly, initial_reports, is_moving, moved_by}
 use Rattle.object_host_laws.proofs.Points.{early_outside}
 use Rattle.object_host_laws.proofs.Found.{items_same}
-use Rattle.object_host_laws.proofs.BehindHosts.{restrictive_early}
-use Rattle.object_host_laws.proofs.Signals.{alive_settled, closed_late, open_before, reached, reads_later, restrictive_settled, told_past}
+use Rattle.object_host_laws.proofs.Signals.{alive_settled, closed_late, open_before, reached, reads_later, told_past}
 
 -- the same reports of the same point, whatever its link
 same_reporting : (items : List (List ℕ)) (told : List Telegram) (host new : HostState PointState) → new.own_name ≡ host.own_name → new.peer_name ≡ host.peer_name →
@@ -63,7 +62,7 @@ passes : ((now : ℕ) (host : HostState PointState) → IsSteady point_behaviour
 unfolding later end_later
 passes clocked elapsed of_client of_server world reported = record {
   steady = clocked now (host_of world) reported.steady;
-  until = reported.until ∙ restrictive_settled now (host_of world);
+  until = reported.until ∙ sym (alive_settled now link);
   answered = reported.answered;
   inside = λ opened. same_reporting world.ends.server.given world.told (host_of world) _ refl refl refl refl refl (reported.inside (open_before now link opened));
   late = λ closed inside. subst (λ until. until ≤ now) (sym (alive_settled now link)) (cases (is_open link.phase) refl closed inside);
@@ -88,7 +87,7 @@ elsewhere world new server-same host-same told-same reported =
     in let open-same : is_open new.ends.server.link.phase ≡ is_open world.ends.server.link.phase = ap (λ (l : LinkState). is_open l.phase) link-same
     in record {
       steady = subst (IsSteady point_behaviour) (sym host-same) reported.steady;
-      until = ap (λ (h : HostState PointState). h.object.until) host-same ∙ reported.until ∙ ap restrictive_from (sym host-same);
+      until = ap (λ (h : HostState PointState). h.object.until) host-same ∙ reported.until ∙ ap alive_until (sym link-same);
       answered = λ early. ap (λ (h : HostState PointState). h.object.progress) host-same
           ∙ reported.answered (ap (λ (h : HostState PointState). is_completed h.stage) (sym host-same) ∙ early);
       inside = λ opened.
@@ -102,8 +101,8 @@ elsewhere world new server-same host-same told-same reported =
 module _
     (clocked : (now : ℕ) (host : HostState PointState) → IsSteady point_behaviour host → IsSteady point_behaviour (record host { link = settled now host.link }))
     (steady_of : (host : HostState PointState) → IsHosted point_behaviour host → IsSteady point_behaviour host)
-    (new_law : (identity : Identity) (own_name peer_name : List ℕ) (number moment : ℕ) (point : PointState) (version : ℕ) (is_strict : Bool)
-    → IsHosted point_behaviour (new_host point_behaviour identity own_name peer_name number moment point version is_strict))
+    (new_law : (identity : Identity) (own_name peer_name : List ℕ) (number moment : ℕ) (point : PointState) (version : ℕ)
+    → IsHosted point_behaviour (new_host point_behaviour identity own_name peer_name number moment point version))
   where
     pub event_reported : (event : Event PointState) (world : World PointState) → ((input : Input) (connection : ℕ) → IsReported (stepped point_behaviour input connection world)) →
         IsReported world → IsReported (happened point_behaviour event world)
@@ -114,7 +113,7 @@ module _
     event_reported (Loses bytes) world steps reported = elsewhere world _ refl refl refl reported
     event_reported (ClientRestarts clock number) world steps reported = elsewhere world _ refl refl refl reported
     event_reported (HostRestarts clock number point) world steps reported = record {
-      steady = steady_of _ (new_law world.ends.server.link.identity world.own_name world.peer_name number clock point world.version world.is_strict);
+      steady = steady_of _ (new_law world.ends.server.link.identity world.own_name world.peer_name number clock point world.version);
       until = refl;
       answered = λ _. refl;
       inside = λ opened. absurd (false≢true opened);
@@ -122,11 +121,11 @@ module _
     }
     event_reported (Elsewhere count) world steps reported = elsewhere world _ refl refl refl reported
 
-    pub begun_reported : (names : Names) (start : Start) (own_name peer_name : List ℕ) (point : PointState) (version : ℕ) (is_strict : Bool) →
-        IsReported (begun point_behaviour names start own_name peer_name point version is_strict)
+    pub begun_reported : (names : Names) (start : Start) (own_name peer_name : List ℕ) (point : PointState) (version : ℕ) →
+        IsReported (begun point_behaviour names start own_name peer_name point version)
     unfolding new_host keeping created alive_until deadline
-    begun_reported names start own_name peer_name point version is_strict = record {
-      steady = steady_of _ (new_law (identity_of role.Server names) own_name peer_name start.server_first start.server_clock point version is_strict);
+    begun_reported names start own_name peer_name point version = record {
+      steady = steady_of _ (new_law (identity_of role.Server names) own_name peer_name start.server_first start.server_clock point version);
       until = refl;
       answered = λ _. refl;
       inside = λ opened. absurd (false≢true opened);
@@ -217,12 +216,9 @@ driven_inside world reported side is =
     now : ℕ
     now = reading_of world.ends.server.clock
 
-    past : alive_until world.ends.server.link ≤ now → restrictive_from (host_of world) ≤ now
-    past dead = omega (arith, dead, restrictive_early (host_of world))
-
     cases : (o out : Bool) → is_open world.ends.server.link.phase ≡ o → is_outside world.stage ≡ out → o ≡ true
     cases true out opened is_out = refl
     cases false true closed is_out =
         absurd (none-some side (sym (ap (driven now world.object.until) (reported.answered (early_outside world.stage is_out))) ∙ is))
     cases false false closed inside =
-        absurd (none-some side (sym (not_driven world.object.progress now world.object.until (subst (λ until. until ≤ now) (sym reported.until) (past (reported.late closed inside)))) ∙ is))
+        absurd (none-some side (sym (not_driven world.object.progress now world.object.until (subst (λ until. until ≤ now) (sym reported.until) (reported.late closed inside))) ∙ is))

@@ -1,5 +1,4 @@
 pub mod OutsideEnds
-pub mod BehindHosts
 pub mod Server
 pub mod Acted
 pub mod Told

@@ -326,12 +326,6 @@ pub begins_lost : (now : ℕ) (point : PointState) → object_after_all point_be
 unfolding object_after_all
 begins_lost now point = refl
 
--- where the link closes behind the clock, since it isn't caught up any more
-pub begins_closed : (now : ℕ) (lost : Bool) (point : PointState) → object_after_all point_behaviour (loss_where lost ++ Ticks now ∷ loss_where true) point ≡ point_behaviour.after_loss point
-unfolding object_after_all
-begins_closed now true point = refl
-begins_closed now false point = refl
-
 pub ends_kept : (moment : ℕ) (point : PointState) → object_after_all point_behaviour (loss_where false ++ Keeps moment ∷ []) point ≡ point_behaviour.after_keep moment point
 unfolding object_after_all
 ends_kept moment point = refl

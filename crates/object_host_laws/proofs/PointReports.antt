@@ -8,14 +8,12 @@ use Rattle.std.proofs.lemmas.List.Elements.{All-append, All-weaker}
 use Rattle.sci_telegram.specs.declared.message.Position.{Position}
 use Rattle.sci_telegram.specs.declared.telegram.Telegram.{Telegram}
 use Rattle.rasta_core.specs.State.{LinkState, is_open}
-use Rattle.rasta_core.specs.Clock.{settled}
+use Rattle.rasta_core.specs.Clock.{alive_until, settled}
 use Rattle.rasta_core.specs.Ends.{kept, reading_of}
 use Rattle.object_host.specs.Host.{HostState, HostSoFar, is_completed}
 use Rattle.object_host.specs.Hosted.{IsHosted, IsNamedAs, IsSteady}
 use Rattle.object_host.specs.Made.{items_given}
-use Rattle.object_host.specs.Step.{beginning, host_step, is_behind}
-use Rattle.object_host.specs.Step.{found as found_first}
-use Rattle.object_host.specs.Strict.{IsBehind}
+use Rattle.object_host.specs.Step.{beginning, host_step}
 use Rattle.object_host.specs.Told.{IsVersionAnswer, item_of}
 use Rattle.object_host.specs.declared.input.Input.{Input}
 use Rattle.object_host.specs.declared.report.Report.{Report}
@@ -24,11 +22,10 @@ use Rattle.object_host_laws.specs.World.{World, entering, host_of, step_of, step
 use Rattle.point_ctl.specs.Controlled.{point_behaviour}
 use Rattle.point_ctl.specs.Drive.{PointState}
 use Rattle.point_ctl.specs.History.{one_more, unanswered}
-use Rattle.object_host_laws.specs.Point.{IsFinal, IsFound, IsPointStep, IsReported, IsReporting, found_by, found_host, link_found, moved_by, moves_in, stage_by}
-use Rattle.object_host_laws.proofs.BehindHosts.{LawOfBehind, behind_of}
-use Rattle.object_host_laws.proofs.Found.{found_inside, found_outside, items_same, link_same}
+use Rattle.object_host_laws.specs.Point.{IsFinal, IsFound, IsPointStep, IsReported, IsReporting, found_by, found_host, moved_by, moves_in, stage_by}
+use Rattle.object_host_laws.proofs.Found.{found_inside, found_outside, items_same}
 use Rattle.object_host_laws.proofs.Moves.{one_longer}
-use Rattle.object_host_laws.proofs.Signals.{restrictive_same, stays_in}
+use Rattle.object_host_laws.proofs.Signals.{stays_in}
 
 pub moves_joined : (first others : List Telegram) → length (moves_in (first ++ others)) ≡ length (moves_in first) + length (moves_in others)
 unfolding moves_in
@@ -73,9 +70,6 @@ module _
     ≡ kept (entering input connection world.ends) world.ends.server.given ++ items_given (reading_of world.ends.server.clock) (step_of point_behaviour input world).calls world.ends.server.link)
     (outside_law : (input : Input) (connection : ℕ) (world : World PointState) → entering input connection world.ends ≡ None → is_open world.ends.server.link.phase ≡ false
     → is_open (stepped point_behaviour input connection world).ends.server.link.phase ≡ false)
-    (behind_law : (input : Input) (connection : ℕ) (world : World PointState) → IsBehind (reading_of world.ends.server.clock) (beginning point_behaviour (reading_of world.ends.server.clock) (host_of world))
-    → is_open (stepped point_behaviour input connection world).ends.server.link.phase ≡ false)
-    (law : LawOfBehind point_behaviour)
   where
     module _ (input : Input) (connection : ℕ) (world : World PointState)
         (is_settled : settled (reading_of world.ends.server.clock) world.ends.server.link ≡ world.ends.server.link) (reported : IsReported world)
@@ -96,7 +90,7 @@ module _
         found = found_by now host
 
         abbrev begun : Stage
-        begun = (found_first point_behaviour now host).host.stage
+        begun = (beginning point_behaviour now host).stage
 
         step : IsPointStep now input host part
         step = steps now input host
@@ -117,26 +111,16 @@ module _
         before : is_open new.ends.server.link.phase ≡ true →
             IsFound now (kept (entering input connection world.ends) world.ends.server.given) (told_since (entering input connection world.ends) world.told) host
         before opened_after = by_link (is_open world.ends.server.link.phase) refl where
-          -- where the link is open after the step it isn't closed behind the clock, so it is found as it was
-          is_found : link_found now host ≡ world.ends.server.link
-          is_found = cases (is_behind now (beginning point_behaviour now host)) refl where
-            cases : (b : Bool) → is_behind now (beginning point_behaviour now host) ≡ b → link_found now host ≡ world.ends.server.link
-            cases true is = absurd (true≢false (sym opened_after ∙ behind_law input connection world (behind_of now (beginning point_behaviour now host) is)))
-            cases false none = link_same law input part world step is_settled reported none
-
-          phase_found : is_open (link_found now host).phase ≡ is_open world.ends.server.link.phase
-          phase_found = ap (λ (l : LinkState). is_open l.phase) is_found
-
           enters : (e : Option ℕ) → entering input connection world.ends ≡ e → is_open world.ends.server.link.phase ≡ false →
               IsFound now (kept e world.ends.server.given) (told_since e world.told) host
           enters None none closed = absurd (true≢false (sym opened_after ∙ outside_law input connection world none closed))
-          enters (Some entered) some closed = found_outside law input part world step is_settled reported (phase_found ∙ closed)
+          enters (Some entered) some closed = found_outside input part world step is_settled reported closed
 
           by_link : (o : Bool) → is_open world.ends.server.link.phase ≡ o →
               IsFound now (kept (entering input connection world.ends) world.ends.server.given) (told_since (entering input connection world.ends) world.told) host
           by_link true opened =
               subst (λ (e : Option ℕ). IsFound now (kept e world.ends.server.given) (told_since e world.told) host)
-              (sym (stays_in input connection world.ends opened)) (found_inside law input part world step is_settled reported (phase_found ∙ opened))
+              (sym (stays_in input connection world.ends opened)) (found_inside input part world step is_settled reported opened)
           by_link false closed = enters (entering input connection world.ends) refl closed
 
         -- the items of the step
@@ -247,7 +231,7 @@ module _
             in let open_is : is_open new.ends.server.link.phase ≡ is_open part.host.link.phase = ap (λ (l : LinkState). is_open l.phase) link_is
             in record {
               steady = record { outside = λ out. open_is ∙ (steady_of part.host after).outside out; idle = (steady_of part.host after).idle };
-              until = step.until ∙ restrictive_same part.host (host_of new) (names now input host).is_strict refl (sym link_is);
+              until = step.until ∙ ap alive_until (sym link_is);
               answered = step.answered reported.answered;
               inside = reporting;
               late = λ closed in_it. absurd (true≢false (sym (after.outside ∙ ap not (sym open_is ∙ closed)) ∙ in_it));

@@ -1,18 +1,16 @@
 -- A step of a host, as a step of its point.
-use Rattle.std.proofs.Common.{◌≡◌, ◌≤◌, ◌⊎◌, ℕ, ◌+◌, inl, inr, Bool, true, false, not, ◌&&◌, if◌then◌else◌, List, [], ◌∷◌, ◌++◌, length, arith, refl, ap, sym, ◌∙◌, subst}
+use Rattle.std.proofs.Common.{◌≡◌, ◌≤◌, ◌⊎◌, ℕ, ◌+◌, inl, inr, Bool, true, false, if◌then◌else◌, List, [], ◌∷◌, ◌++◌, length, arith, refl, ap, sym, ◌∙◌, subst}
 use Rattle.std.specs.List.{All}
 use Rattle.std.proofs.lemmas.Bool.{true≢false, false≢true}
 use Rattle.std.proofs.lemmas.List.Elements.{All-nil}
 use Rattle.sci_telegram.specs.declared.message.Position.{Position}
 use Rattle.rasta_core.specs.State.{is_open}
-use Rattle.rasta_core.specs.Clock.{settled}
-use Rattle.rasta_core.specs.reason.Reason.TheVariants as reason
-use Rattle.object_host.specs.Host.{HostState, HostSoFar, is_completed, is_outside, restrictive_from, silent}
+use Rattle.rasta_core.specs.Clock.{alive_until, settled}
+use Rattle.object_host.specs.Host.{HostState, HostSoFar, is_completed, is_outside}
 use Rattle.object_host.specs.Object.{ObjectCall, Keeps, Ticks, object_after_all, reports_paid, telegrams_in}
-use Rattle.object_host.specs.Step.{beginning, closing, closing_behind, given, initial_status, is_behind}
-use Rattle.object_host.specs.Step.{found as found_first}
+use Rattle.object_host.specs.Step.{beginning, given, initial_status}
 use Rattle.object_host.specs.Host.{fallen}
-use Rattle.object_host.specs.Told.{AreSomeOf, IsToldIn, IsVersionAnswer, calls_begun, has_lost, initialisation, loses_behind, loss_where}
+use Rattle.object_host.specs.Told.{AreSomeOf, IsToldIn, IsVersionAnswer, has_lost, initialisation, loss_where}
 use Rattle.object_host.specs.declared.input.Input.{Input}
 use Rattle.object_host.specs.declared.input.Input.TheVariants as inputs
 use Rattle.object_host.specs.declared.sense.Sense.TheVariants as sense
@@ -23,7 +21,7 @@ use Rattle.point_ctl.specs.Controlled.{point_behaviour}
 use Rattle.point_ctl.specs.Drive.{PointState, limited, losing, ticking}
 use Rattle.point_ctl.specs.History.{unanswered}
 use Rattle.object_host_laws.specs.Point.{IsFinal, IsPointStep, found_by, initial_reports, is_moving, moved_by, moves_in, position_told, stage_by}
-use Rattle.object_host_laws.proofs.Moves.{ArePaid, are_paid, begins_closed, begins_kept, begins_lost, comes_to_stand, coming_drives, coming_fits, coming_untold, coming_waits, ends_kept, ends_lost, joined}
+use Rattle.object_host_laws.proofs.Moves.{ArePaid, are_paid, begins_kept, begins_lost, comes_to_stand, coming_drives, coming_fits, coming_untold, coming_waits, ends_kept, ends_lost, joined}
 
 pub early_outside : (s : Stage) → is_outside s ≡ true → is_completed s ≡ false
 early_outside stage.Outside out = refl
@@ -45,25 +43,6 @@ pub begun_stage : (now : ℕ) (host : HostState PointState) → has_lost (record
 unfolding beginning fallen
 begun_stage now host none = rw none refl
 
--- nor does a close where the host is outside, or isn't behind
-pub found_stage : (now : ℕ) (host : HostState PointState) → has_lost (record host { link = settled now host.link }) ≡ false → loses_behind now (beginning point_behaviour now host) ≡ false
-    → (found_first point_behaviour now host).host.stage ≡ host.stage
-unfolding closing_behind fallen
-found_stage now host none stays = cases (is_behind now begun) (is_outside begun.stage) refl refl ∙ begun_stage now host none where
-  begun : HostState PointState
-  begun = beginning point_behaviour now host
-
-  part : HostSoFar PointState
-  part = closing now reason.User begun
-
-  first : Bool → HostSoFar PointState
-  first b = if b then record part { host = fallen point_behaviour part.host } else silent begun
-
-  cases : (b out : Bool) → is_behind now begun ≡ b → is_outside begun.stage ≡ out → (first b).host.stage ≡ begun.stage
-  cases false out behind is = refl
-  cases true true behind is = rw is refl
-  cases true false behind is = absurd (true≢false (sym (λ i. behind i && not (is i)) ∙ stays))
-
 begun_version : (now : ℕ) (host : HostState PointState) → (beginning point_behaviour now host).version ≡ host.version
 unfolding beginning fallen
 begun_version now host = cases (has_lost (record host { link = settled now host.link })) where
@@ -75,23 +54,6 @@ begun_version now host = cases (has_lost (record host { link = settled now host.
 
   cases : (b : Bool) → (after b).version ≡ host.version
   cases true = refl
-  cases false = refl
-
-found_version : (now : ℕ) (host : HostState PointState) → (found_first point_behaviour now host).host.version ≡ host.version
-unfolding closing_behind fallen
-found_version now host = cases (is_behind now begun) ∙ begun_version now host where
-  begun : HostState PointState
-  begun = beginning point_behaviour now host
-
-  part : HostSoFar PointState
-  part = closing now reason.User begun
-
-  fell : (b : Bool) → (if b then record part.host { stage = stage.Outside; object = losing part.host.object } else part.host).version ≡ begun.version
-  fell true = refl
-  fell false = refl
-
-  cases : (b : Bool) → (if b then record part { host = fallen point_behaviour part.host } else silent begun).host.version ≡ begun.version
-  cases true = fell (has_lost part.host)
   cases false = refl
 
 none_sent : {X : Type 0} (sent : List X) (n : ℕ) → sent ≡ [] → length sent ≤ n
@@ -120,37 +82,25 @@ module _ (now : ℕ) (input : Input) (host : HostState PointState) (part : HostS
   payment : ArePaid tells.pays moved
   payment = are_paid tells.pays moved tells.are_payments
 
-  abbrev closed_first : Bool
-  closed_first = loses_behind now (beginning point_behaviour now host)
+  begins : (b : Bool) → lost_first ≡ b → found ≡ object_after_all point_behaviour (loss_where b ++ Ticks now ∷ []) host.object
+  begins b is = tells.begun_is ∙ ap (λ (l : Bool). object_after_all point_behaviour (loss_where l ++ Ticks now ∷ []) host.object) is
 
-  begins : (b c : Bool) → lost_first ≡ b → closed_first ≡ c → found ≡ object_after_all point_behaviour (loss_where b ++ Ticks now ∷ loss_where c) host.object
-  begins b c is closes = tells.begun_is ∙ (λ i. object_after_all point_behaviour (loss_where (is i) ++ Ticks now ∷ loss_where (closes i)) host.object)
-
-  kept : lost_first ≡ false → closed_first ≡ false → found ≡ ticking now host.object
-  kept is stays = begins false false is stays ∙ begins_kept now host.object
-
-  closed : closed_first ≡ true → found ≡ losing host.object
-  closed closes = by lost_first refl where
-    by : (b : Bool) → lost_first ≡ b → found ≡ losing host.object
-    by b is = begins b true is closes ∙ begins_closed now b host.object
+  kept : lost_first ≡ false → found ≡ ticking now host.object
+  kept is = begins false is ∙ begins_kept now host.object
 
   forgot : lost_first ≡ true → found ≡ ticking now (losing host.object)
-  forgot is = by closed_first refl where
-    by : (c : Bool) → closed_first ≡ c → found ≡ ticking now (losing host.object)
-    by true closes = closed closes
-    by false stays = begins true false is stays ∙ begins_lost now host.object
+  forgot is = begins true is ∙ begins_lost now host.object
 
   found_stands : found.sensed ≡ host.object.sensed
-  found_stands = by lost_first closed_first refl refl where
-    by : (b c : Bool) → lost_first ≡ b → closed_first ≡ c → found.sensed ≡ host.object.sensed
-    by true c is closes = ap (λ (p : PointState). p.sensed) (forgot is)
-    by false true is closes = ap (λ (p : PointState). p.sensed) (closed closes)
-    by false false is closes = ap (λ (p : PointState). p.sensed) (kept is closes)
+  found_stands = by lost_first refl where
+    by : (b : Bool) → lost_first ≡ b → found.sensed ≡ host.object.sensed
+    by true is = ap (λ (p : PointState). p.sensed) (forgot is)
+    by false is = ap (λ (p : PointState). p.sensed) (kept is)
 
-  ends : (b : Bool) → tells.is_lost ≡ b → part.host.object ≡ object_after_all point_behaviour (loss_where b ++ Keeps (restrictive_from part.host) ∷ []) paid
+  ends : (b : Bool) → tells.is_lost ≡ b → part.host.object ≡ object_after_all point_behaviour (loss_where b ++ Keeps (alive_until part.host.link) ∷ []) paid
   ends b is =
-      let first = calls_begun point_behaviour now host
-      in let last : Bool → List ObjectCall = λ l. loss_where l ++ Keeps (restrictive_from part.host) ∷ []
+      let first = loss_where lost_first ++ Ticks now ∷ []
+      in let last : Bool → List ObjectCall = λ l. loss_where l ++ Keeps (alive_until part.host.link) ∷ []
       in tells.object_is
       ∙ ap (λ l. object_after_all point_behaviour (first ++ ((tells.comes ++ tells.pays) ++ last l)) host.object) is
       ∙ joined first ((tells.comes ++ tells.pays) ++ last b) host.object
@@ -158,11 +108,11 @@ module _ (now : ℕ) (input : Input) (host : HostState PointState) (part : HostS
       ∙ joined (tells.comes ++ tells.pays) (last b) found
       ∙ ap (object_after_all point_behaviour (last b)) (joined tells.comes tells.pays found)
 
-  ended_kept : tells.is_lost ≡ false → part.host.object ≡ point_behaviour.after_keep (restrictive_from part.host) paid
-  ended_kept is = ends false is ∙ ends_kept (restrictive_from part.host) paid
+  ended_kept : tells.is_lost ≡ false → part.host.object ≡ point_behaviour.after_keep (alive_until part.host.link) paid
+  ended_kept is = ends false is ∙ ends_kept (alive_until part.host.link) paid
 
-  ended_lost : tells.is_lost ≡ true → part.host.object ≡ point_behaviour.after_keep (restrictive_from part.host) (losing paid)
-  ended_lost is = ends true is ∙ ends_lost (restrictive_from part.host) paid
+  ended_lost : tells.is_lost ≡ true → part.host.object ≡ point_behaviour.after_keep (alive_until part.host.link) (losing paid)
+  ended_lost is = ends true is ∙ ends_lost (alive_until part.host.link) paid
 
   moved_stands : moved.sensed ≡ position_told input host.object.sensed
   moved_stands = comes_to_stand now input tells.comes found tells.are_coming tells.senses ∙ ap (position_told input) found_stands
@@ -200,11 +150,11 @@ module _ (now : ℕ) (input : Input) (host : HostState PointState) (part : HostS
   contacts inputs.Tick is = inl refl
   contacts (inputs.Datagram bytes) is = inl refl
   contacts (inputs.Sense (sense.Section place occupancy)) is = inl refl
-  contacts (inputs.Sense (sense.Position position)) is = inr (by (is_completed (found_first point_behaviour now host).host.stage) refl) where
-    same : stage_by now input host ≡ (found_first point_behaviour now host).host.stage
-    same = ap (λ i. stage_by now i host) (sym is) ∙ sensed_stage now position (found_first point_behaviour now host).host
+  contacts (inputs.Sense (sense.Position position)) is = inr (by (is_completed (beginning point_behaviour now host).stage) refl) where
+    same : stage_by now input host ≡ (beginning point_behaviour now host).stage
+    same = ap (λ i. stage_by now i host) (sym is) ∙ sensed_stage now position (beginning point_behaviour now host)
 
-    by : (b : Bool) → is_completed (found_first point_behaviour now host).host.stage ≡ b → tells.says.begins ≡ []
+    by : (b : Bool) → is_completed (beginning point_behaviour now host).stage ≡ b → tells.says.begins ≡ []
     by true completed = none_before tells.says.answers tells.says.begins (sym tells.says.own_is ∙ tells.says.late completed)
     by false early = tells.says.completes (ap is_completed same ∙ early)
 
@@ -213,17 +163,16 @@ module _ (now : ℕ) (input : Input) (host : HostState PointState) (part : HostS
 
   -- before the initialisation was completed the step finds every move answered
   found_answered : ((is_completed host.stage ≡ false) → host.object.progress ≡ Answered) → is_completed (stage_by now input host) ≡ false → found.progress ≡ Answered
-  found_answered before is = by lost_first closed_first refl refl where
-    not_yet : (b : Bool) → is_completed (found_first point_behaviour now host).host.stage ≡ b → b ≡ false
+  found_answered before is = by lost_first refl where
+    not_yet : (b : Bool) → is_completed (beginning point_behaviour now host).stage ≡ b → b ≡ false
     not_yet true completed = absurd (true≢false (sym (tells.completed completed) ∙ is))
     not_yet false completed = refl
 
-    by : (b c : Bool) → lost_first ≡ b → closed_first ≡ c → found.progress ≡ Answered
-    by true c lost closes = ap (λ (p : PointState). p.progress) (forgot lost)
-    by false true none closes = ap (λ (p : PointState). p.progress) (closed closes)
-    by false false none stays =
-        ap (λ (p : PointState). p.progress) (kept none stays)
-        ∙ ap (limited now) (before (ap is_completed (sym (found_stage now host none stays)) ∙ not_yet (is_completed (found_first point_behaviour now host).host.stage) refl))
+    by : (b : Bool) → lost_first ≡ b → found.progress ≡ Answered
+    by true lost = ap (λ (p : PointState). p.progress) (forgot lost)
+    by false none =
+        ap (λ (p : PointState). p.progress) (kept none)
+        ∙ ap (limited now) (before (ap is_completed (sym (begun_stage now host none)) ∙ not_yet (is_completed (beginning point_behaviour now host).stage) refl))
 
   answered : ((is_completed host.stage ≡ false) → host.object.progress ≡ Answered) → is_completed part.host.stage ≡ false → part.host.object.progress ≡ Answered
   answered before is = by tells.is_lost (is_open part.host.link.phase) refl refl where
@@ -244,7 +193,6 @@ module _ (now : ℕ) (input : Input) (host : HostState PointState) (part : HostS
     tells = tells;
     stays = kept;
     lost = forgot;
-    closed = closed;
     stands = moved_stands;
     waits = subst (λ moves. unanswered moved.progress ≤ unanswered found.progress + length moves) told_moves (coming_waits now tells.comes found tells.are_coming);
     commanded = λ opened.
@@ -255,7 +203,7 @@ module _ (now : ℕ) (input : Input) (host : HostState PointState) (part : HostS
     finals = finals_are;
     still = still;
     few = few;
-    versions = subst (λ v. All (IsVersionAnswer point_behaviour v) tells.says.answers) (found_version now host) tells.says.are_answers;
+    versions = subst (λ v. All (IsVersionAnswer point_behaviour v) tells.says.answers) (begun_version now host) tells.says.are_answers;
     initial = subst (AreSomeOf tells.says.begins) (initialisation_is found ∙ ap initial_reports found_stands) tells.says.are_some;
     contacts = contacts input refl;
     stands_after = by_loss tells.is_lost refl;
@@ -270,6 +218,6 @@ module _ (now : ℕ) (input : Input) (host : HostState PointState) (part : HostS
     by_loss true is = ap (λ (p : PointState). p.sensed) (ended_lost is) ∙ payment.stands
     by_loss false is = ap (λ (p : PointState). p.sensed) (ended_kept is) ∙ payment.stands
 
-    until_is : (b : Bool) → tells.is_lost ≡ b → part.host.object.until ≡ restrictive_from part.host
+    until_is : (b : Bool) → tells.is_lost ≡ b → part.host.object.until ≡ alive_until part.host.link
     until_is true is = ap (λ (p : PointState). p.until) (ended_lost is)
     until_is false is = ap (λ (p : PointState). p.until) (ended_kept is)

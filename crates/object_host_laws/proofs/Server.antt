@@ -1,28 +1,26 @@
 -- What the calls of a host do at its end of the link.
-use Rattle.std.proofs.Common.{◌≡◌, inl, inr, ℕ, Bool, true, false, nat_lt, if◌then◌else◌, List, [], ◌∷◌, ◌++◌, length, append_assoc, refl, ap, sym, ◌∙◌, subst}
-use Rattle.std.specs.Prelude.{◌&&◌, not, Some, None, Ok, Err, is_ok}
+use Rattle.std.proofs.Common.{◌≡◌, ℕ, Bool, true, false, nat_lt, if◌then◌else◌, List, [], ◌∷◌, ◌++◌, length, append_assoc, refl, ap, sym, ◌∙◌, subst}
+use Rattle.std.specs.Prelude.{None, Ok, Err, is_ok}
 use Rattle.std.proofs.lemmas.Bool.{true≢false}
 use Rattle.std.proofs.lemmas.List.{append-nil}
 use Rattle.std.proofs.lemmas.Option.{none-some}
 use Rattle.rasta_core.specs.Parameters.{window_size}
 use Rattle.rasta_core.specs.State.{LinkState, is_open, is_up}
-use Rattle.rasta_core.specs.Calls.{acceptance, answer_to_send, closing_by, receiving}
-use Rattle.rasta_core.specs.Clock.{settled}
-use Rattle.rasta_core.specs.reason.Reason.TheVariants as reason
+use Rattle.rasta_core.specs.Calls.{acceptance, answer_to_send, receiving}
 use Rattle.rasta_core.specs.PdusHandedOut.{Step}
 use Rattle.rasta_core.specs.fault.SendFault.TheVariants as fault
 use Rattle.rasta_core.specs.phase.Phase.{Phase}
 use Rattle.rasta_core.specs.phase.Phase.TheVariants as phase
 use Rattle.rasta_core.specs.identity.Role.TheVariants as role
 use Rattle.rasta_core.specs.Ends as calls
-use Rattle.rasta_core.specs.Ends.{end_after, entered_by, is_taken, kept, newer, outcome, reading_of}
+use Rattle.rasta_core.specs.Ends.{end_after, entered_by, is_taken, kept, outcome, reading_of}
 use Rattle.rasta_core.specs.Run.{Ends, called}
 use Rattle.object_host.specs.Host.{LinkCall, Ticks, Closes, Sends, Receives}
 use Rattle.object_host.specs.Made.{AreCallsFor, AreOwn, IsOwn, call_made, calls_made, items_given, items_given_by, items_taken}
 use Rattle.object_host.specs.declared.input.Input.{Input}
 use Rattle.object_host.specs.declared.input.Input.TheVariants as inputs
 use Rattle.object_host_laws.specs.World.{as_call, called_all, entering}
-use Rattle.object_host_laws.proofs.OutsideEnds.{IsQuiet, closed_quiet, entered_is, quiet_closed, quiet_untaken, receiving_outside, settled_open}
+use Rattle.object_host_laws.proofs.OutsideEnds.{entered_is, receiving_outside}
 
 -- what the host's clock reads
 abbrev pub now_of : Ends → ℕ
@@ -71,53 +69,15 @@ received_taken connection bytes others ends own =
     in own_taken connection others (called role.Server (as_call connection (Receives bytes)) ends) own
     ∙ ap (λ rest. old ++ rest) (sym (ap (λ rest. items ++ rest) (own_takes_nothing (now_of ends) others _ own) ∙ append-nil items))
 
--- the end once its host has closed it, since it isn't caught up any more
-abbrev closed_of : Ends → Ends
-closed_of ends = called role.Server (calls.Closes reason.User) ends
-
-is_quiet : (ends : Ends) → is_up (settled (now_of ends) ends.server.link).phase ≡ true → IsQuiet (now_of ends) (closing_by (now_of ends) reason.User ends.server.link).link
-is_quiet ends up = closed_quiet (now_of ends) ends.server.link up
-
--- it enters no connection at this reading, as it would have entered none before
-enters_none : (inside taken : Bool) (connection : ℕ) → inside ≡ false → taken ≡ false → (if not inside && taken then Some connection else None) ≡ None
-enters_none inside taken connection shut untaken = rw (shut, untaken) refl
-
-closed_enters : (connection : ℕ) (bytes : List ℕ) (ends : Ends) → is_up (settled (now_of ends) ends.server.link).phase ≡ true →
-    (outcome (calls.Receives bytes connection) (closed_of ends).moment (closed_of ends).server).enters ≡ None
-unfolding called outcome end_after
-closed_enters connection bytes ends up =
-    let link = (closing_by (now_of ends) reason.User ends.server.link).link
-    in enters_none (is_open link.phase) (is_taken (receiving (now_of ends) bytes link).verdict) connection (is_quiet ends up).closed (quiet_untaken (now_of ends) bytes link (is_quiet ends up))
-
-open_enters : (connection : ℕ) (bytes : List ℕ) (ends : Ends) → is_up (settled (now_of ends) ends.server.link).phase ≡ true →
-    (outcome (calls.Receives bytes connection) ends.moment ends.server).enters ≡ None
-unfolding outcome
-open_enters connection bytes ends up = rw (settled_open (now_of ends) ends.server.link up) refl
-
-closed_taken : (connection : ℕ) (bytes : List ℕ) (others : List LinkCall) (ends : Ends) → AreOwn others → is_up (settled (now_of ends) ends.server.link).phase ≡ true →
-    (called_all connection (Closes reason.User ∷ Receives bytes ∷ others) ends).server.taken
-    ≡ kept (outcome (calls.Receives bytes connection) ends.moment ends.server).enters ends.server.taken ++ items_taken (now_of ends) (Closes reason.User ∷ Receives bytes ∷ others) ends.server.link
-unfolding called_all called outcome end_after items_taken
-closed_taken connection bytes others ends own up =
-    let items = items_taken (now_of ends) (Receives bytes ∷ others) (closing_by (now_of ends) reason.User ends.server.link).link
-    in received_taken connection bytes others (closed_of ends) own
-    ∙ ap (λ e. kept e (ends.server.taken ++ []) ++ items) (closed_enters connection bytes ends up)
-    ∙ ap (λ taken. taken ++ items) (append-nil ends.server.taken)
-    ∙ ap (λ e. kept e ends.server.taken ++ items) (sym (open_enters connection bytes ends up))
-
 -- the items that the end has taken after a step
-pub taken_after : (connection : ℕ) (input : Input) (made : List LinkCall) (ends : Ends) → AreCallsFor (now_of ends) ends.server.link input made →
+pub taken_after : (connection : ℕ) (input : Input) (made : List LinkCall) (ends : Ends) → AreCallsFor input made →
     (called_all connection made ends).server.taken ≡ kept (entering input connection ends) ends.server.taken ++ items_taken (now_of ends) made ends.server.link
 taken_after connection inputs.Tick made ends own =
     own_taken connection made ends own ∙ sym (ap (λ rest. ends.server.taken ++ rest) (own_takes_nothing (now_of ends) made _ own) ∙ append-nil ends.server.taken)
 taken_after connection (inputs.Datagram bytes) made ends first =
-    elim first.1 [
-      | inl is ↦ subst TakesSo (sym is) (received_taken connection bytes.now first.0 ends first.2)
-      | inr both ↦ subst TakesSo (sym both.0) (closed_taken connection bytes.now first.0 ends first.2 both.1)
-    ]
-  where
-    TakesSo : List LinkCall → Type 0
-    TakesSo cs = (called_all connection cs ends).server.taken ≡ kept (entering (inputs.Datagram bytes) connection ends) ends.server.taken ++ items_taken (now_of ends) cs ends.server.link
+    subst (λ cs. (called_all connection cs ends).server.taken
+    ≡ kept (entering (inputs.Datagram bytes) connection ends) ends.server.taken ++ items_taken (now_of ends) cs ends.server.link) (sym first.1)
+    (received_taken connection bytes.now first.0 ends first.2)
 taken_after connection (inputs.Sense sense) made ends own =
     own_taken connection made ends own ∙ sym (ap (λ rest. ends.server.taken ++ rest) (own_takes_nothing (now_of ends) made _ own) ∙ append-nil ends.server.taken)
 
@@ -146,65 +106,14 @@ received_given connection bytes others ends own =
     in own_given connection others (called role.Server (as_call connection (Receives bytes)) ends) own
     ∙ ap (λ given. given ++ items_given (now_of ends) others (receiving (now_of ends) bytes ends.server.link).link) (append-nil old)
 
-closed_given : (connection : ℕ) (bytes : List ℕ) (others : List LinkCall) (ends : Ends) → AreOwn others → is_up (settled (now_of ends) ends.server.link).phase ≡ true →
-    (called_all connection (Closes reason.User ∷ Receives bytes ∷ others) ends).server.given
-    ≡ kept (outcome (calls.Receives bytes connection) ends.moment ends.server).enters ends.server.given ++ items_given (now_of ends) (Closes reason.User ∷ Receives bytes ∷ others) ends.server.link
-unfolding called_all called outcome end_after items_given
-closed_given connection bytes others ends own up =
-    let items = items_given (now_of ends) (Receives bytes ∷ others) (closing_by (now_of ends) reason.User ends.server.link).link
-    in received_given connection bytes others (closed_of ends) own
-    ∙ ap (λ e. kept e (ends.server.given ++ []) ++ items) (closed_enters connection bytes ends up)
-    ∙ ap (λ given. given ++ items) (append-nil ends.server.given)
-    ∙ ap (λ e. kept e ends.server.given ++ items) (sym (open_enters connection bytes ends up))
-
-pub given_after : (connection : ℕ) (input : Input) (made : List LinkCall) (ends : Ends) → AreCallsFor (now_of ends) ends.server.link input made →
+pub given_after : (connection : ℕ) (input : Input) (made : List LinkCall) (ends : Ends) → AreCallsFor input made →
     (called_all connection made ends).server.given ≡ kept (entering input connection ends) ends.server.given ++ items_given (now_of ends) made ends.server.link
 given_after connection inputs.Tick made ends own = own_given connection made ends own
 given_after connection (inputs.Datagram bytes) made ends first =
-    elim first.1 [
-      | inl is ↦ subst GivesSo (sym is) (received_given connection bytes.now first.0 ends first.2)
-      | inr both ↦ subst GivesSo (sym both.0) (closed_given connection bytes.now first.0 ends first.2 both.1)
-    ]
-  where
-    GivesSo : List LinkCall → Type 0
-    GivesSo cs = (called_all connection cs ends).server.given ≡ kept (entering (inputs.Datagram bytes) connection ends) ends.server.given ++ items_given (now_of ends) cs ends.server.link
+    subst (λ cs. (called_all connection cs ends).server.given
+    ≡ kept (entering (inputs.Datagram bytes) connection ends) ends.server.given ++ items_given (now_of ends) cs ends.server.link) (sym first.1)
+    (received_given connection bytes.now first.0 ends first.2)
 given_after connection (inputs.Sense sense) made ends own = own_given connection made ends own
-
--- the connection that the end entered last
-own_connection : (connection : ℕ) (made : List LinkCall) (ends : Ends) → AreOwn made → (called_all connection made ends).server.connection ≡ ends.server.connection
-unfolding called_all called outcome end_after
-own_connection connection [] ends own = refl
-own_connection connection (Ticks ∷ others) ends own = own_connection connection others (called role.Server (as_call connection Ticks) ends) own.1
-own_connection connection (Closes why ∷ others) ends own = own_connection connection others (called role.Server (as_call connection (Closes why)) ends) own.1
-own_connection connection (Sends item ∷ others) ends own = own_connection connection others (called role.Server (as_call connection (Sends item)) ends) own.1
-own_connection connection (Receives bytes ∷ others) ends own = absurd own.0
-
-received_connection : (connection : ℕ) (bytes : List ℕ) (others : List LinkCall) (ends : Ends) → AreOwn others →
-    (called_all connection (Receives bytes ∷ others) ends).server.connection ≡ newer (outcome (calls.Receives bytes connection) ends.moment ends.server).enters ends.server.connection
-unfolding called_all called outcome end_after
-received_connection connection bytes others ends own = own_connection connection others (called role.Server (as_call connection (Receives bytes)) ends) own
-
-closed_connection : (connection : ℕ) (bytes : List ℕ) (others : List LinkCall) (ends : Ends) → AreOwn others → is_up (settled (now_of ends) ends.server.link).phase ≡ true →
-    (called_all connection (Closes reason.User ∷ Receives bytes ∷ others) ends).server.connection
-    ≡ newer (outcome (calls.Receives bytes connection) ends.moment ends.server).enters ends.server.connection
-unfolding called_all called outcome end_after
-closed_connection connection bytes others ends own up =
-    received_connection connection bytes others (closed_of ends) own
-    ∙ ap (λ e. newer e ends.server.connection) (closed_enters connection bytes ends up)
-    ∙ ap (λ e. newer e ends.server.connection) (sym (open_enters connection bytes ends up))
-
-pub connection_after : (connection : ℕ) (input : Input) (made : List LinkCall) (ends : Ends) → AreCallsFor (now_of ends) ends.server.link input made →
-    (called_all connection made ends).server.connection ≡ newer (entering input connection ends) ends.server.connection
-connection_after connection inputs.Tick made ends own = own_connection connection made ends own
-connection_after connection (inputs.Datagram bytes) made ends first =
-    elim first.1 [
-      | inl is ↦ subst EntersSo (sym is) (received_connection connection bytes.now first.0 ends first.2)
-      | inr both ↦ subst EntersSo (sym both.0) (closed_connection connection bytes.now first.0 ends first.2 both.1)
-    ]
-  where
-    EntersSo : List LinkCall → Type 0
-    EntersSo cs = (called_all connection cs ends).server.connection ≡ newer (entering (inputs.Datagram bytes) connection ends) ends.server.connection
-connection_after connection (inputs.Sense sense) made ends own = own_connection connection made ends own
 
 -- an end that stays outside in a step: it takes and gives nothing
 pub record StaysOut (made : List LinkCall) (ends : Ends) : Type 0 where
@@ -265,7 +174,7 @@ received_out opens connection bytes others ends own stays closed =
     cases link v none taken true is = absurd (none-some connection (sym none ∙ rw (closed, taken is) refl))
     cases link v none taken false is = is
 
-pub stays_out : OpensNothing → (connection : ℕ) (input : Input) (made : List LinkCall) (ends : Ends) → AreCallsFor (now_of ends) ends.server.link input made →
+pub stays_out : OpensNothing → (connection : ℕ) (input : Input) (made : List LinkCall) (ends : Ends) → AreCallsFor input made →
     entering input connection ends ≡ None → is_open ends.server.link.phase ≡ false → StaysOut made ends
 stays_out opens connection inputs.Tick made ends own stays closed =
     record {
@@ -274,86 +183,10 @@ stays_out opens connection inputs.Tick made ends own stays closed =
       out = opens (now_of ends) made _ own closed;
     }
 stays_out opens connection (inputs.Datagram bytes) made ends first stays closed =
-    elim first.1 [
-      | inl is ↦ subst (λ cs. StaysOut cs ends) (sym is) (received_out opens connection bytes.now first.0 ends first.2 stays closed)
-      | inr both ↦ absurd (true≢false (sym (settled_open (now_of ends) ends.server.link both.1) ∙ closed))
-    ]
+    subst (λ cs. StaysOut cs ends) (sym first.1) (received_out opens connection bytes.now first.0 ends first.2 stays closed)
 stays_out opens connection (inputs.Sense sense) made ends own stays closed =
     record {
       no_items = own_takes_nothing (now_of ends) made _ own;
       none_given = own_gives_nothing opens (now_of ends) made _ own closed;
       out = opens (now_of ends) made _ own closed;
     }
-
--- what stands behind the first of two lists that are the same
-behind_first : (first other : LinkCall) (rest others : List LinkCall) → first ∷ rest ≡ other ∷ others → rest ≡ others
-behind_first first other rest others same = cc (same)
-
--- a step that closes the link before anything else leaves it closed
-closed_rest : OpensNothing → (now : ℕ) (input : Input) (made rest : List LinkCall) (link : LinkState) → AreCallsFor now link input made → made ≡ Closes reason.User ∷ rest →
-    is_up (settled now link).phase ≡ true → is_open (calls_made now rest (closing_by now reason.User link).link).link.phase ≡ false
-unfolding calls_made
-closed_rest opens now inputs.Tick made rest link own is up = opens now rest (closing_by now reason.User link).link (subst AreOwn is own).1 (closed_quiet now link up).closed
-closed_rest opens now (inputs.Datagram bytes) made rest link first is up =
-    elim first.1 [
-      | inl received ↦ absurd (cc (sym received ∙ is))
-      | inr both ↦ subst (λ cs. is_open (calls_made now cs closed).link.phase ≡ false) (behind_first _ _ _ _ (sym both.0 ∙ is))
-          (opens now first.0 (receiving now bytes.now closed).link first.2 (quiet_closed now bytes.now closed (closed_quiet now link up)))
-    ]
-  where
-    closed : LinkState
-    closed = (closing_by now reason.User link).link
-closed_rest opens now (inputs.Sense sense) made rest link own is up = opens now rest (closing_by now reason.User link).link (subst AreOwn is own).1 (closed_quiet now link up).closed
-
-pub closes_out : OpensNothing → (now : ℕ) (input : Input) (made rest : List LinkCall) (link : LinkState) → AreCallsFor now link input made → made ≡ Closes reason.User ∷ rest →
-    is_up (settled now link).phase ≡ true → is_open (calls_made now made link).link.phase ≡ false
-unfolding calls_made
-closes_out opens now input made rest link first is up =
-    ap (λ cs. is_open (calls_made now cs link).link.phase) is ∙ closed_rest opens now input made rest link first is up
-
--- and takes and gives nothing in it
-closed_idle : OpensNothing → (now : ℕ) (input : Input) (made rest : List LinkCall) (link : LinkState) → AreCallsFor now link input made → made ≡ Closes reason.User ∷ rest →
-    is_up (settled now link).phase ≡ true → (items_taken now rest (closing_by now reason.User link).link ≡ []) × (items_given now rest (closing_by now reason.User link).link ≡ [])
-unfolding items_taken items_given
-closed_idle opens now input made rest link first is up = by input first where
-  closed : LinkState
-  closed = (closing_by now reason.User link).link
-
-  quiet : IsQuiet now closed
-  quiet = closed_quiet now link up
-
-  IsIdle : List LinkCall → Type 0
-  IsIdle calls = (items_taken now calls closed ≡ []) × (items_given now calls closed ≡ [])
-
-  own_idles : (calls : List LinkCall) → AreOwn calls → IsIdle calls
-  own_idles calls own = (own_takes_nothing now calls closed own, own_gives_nothing opens now calls closed own quiet.closed)
-
-  heard_idles : (bytes : List ℕ) (others : List LinkCall) → AreOwn others → IsIdle (Receives bytes ∷ others)
-  heard_idles bytes others own =
-      let receipt = receiving now bytes closed
-      in (
-        ap (λ items. items ++ items_taken now others receipt.link) (receiving_outside now bytes closed quiet.closed).no_items ∙ own_takes_nothing now others receipt.link own,
-        own_gives_nothing opens now others receipt.link own (quiet_closed now bytes closed quiet),
-      )
-
-  by : (input : Input) → AreCallsFor now link input made → IsIdle rest
-  by inputs.Tick own = own_idles rest (subst AreOwn is own).1
-  by (inputs.Datagram bytes) first =
-      elim first.1 [
-        | inl received ↦ absurd (cc (sym received ∙ is))
-        | inr both ↦ subst IsIdle (behind_first _ _ _ _ (sym both.0 ∙ is)) (heard_idles bytes.now first.0 first.2)
-      ]
-  by (inputs.Sense sense) own = own_idles rest (subst AreOwn is own).1
-
-pub closes_idle : OpensNothing → (now : ℕ) (input : Input) (made rest : List LinkCall) (link : LinkState) → AreCallsFor now link input made → made ≡ Closes reason.User ∷ rest →
-    is_up (settled now link).phase ≡ true → (items_taken now made link ≡ []) × (items_given now made link ≡ [])
-unfolding items_taken items_given
-closes_idle opens now input made rest link first is up =
-    let idle = closed_idle opens now input made rest link first is up
-    in (ap (λ cs. items_taken now cs link) is ∙ idle.0, ap (λ cs. items_given now cs link) is ∙ idle.1)
-
--- nor does it enter a connection
-pub enters_none_behind : (connection : ℕ) (input : Input) (ends : Ends) → is_up (settled (now_of ends) ends.server.link).phase ≡ true → entering input connection ends ≡ None
-enters_none_behind connection inputs.Tick ends up = refl
-enters_none_behind connection (inputs.Datagram bytes) ends up = open_enters connection bytes.now ends up
-enters_none_behind connection (inputs.Sense sense) ends up = refl

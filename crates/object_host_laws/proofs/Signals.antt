@@ -1,5 +1,5 @@
 -- A signal in its host shows what its host acted on, event by event.
-use Rattle.std.proofs.Common.{◌≡◌, ◌≤◌, ◌+◌, ◌*◌, ◌/◌, ℕ, Bool, true, false, min, nat_le, nat_lt, not, ◌&&◌, if◌then◌else◌, lit<, List, [], ◌∷◌, ◌++◌, append_assoc, arith, refl, ap, sym, ◌∙◌, subst}
+use Rattle.std.proofs.Common.{◌≡◌, ◌≤◌, ◌+◌, ◌*◌, ◌/◌, ℕ, Bool, true, false, nat_le, nat_lt, not, ◌&&◌, if◌then◌else◌, lit<, List, [], ◌∷◌, ◌++◌, append_assoc, arith, refl, ap, sym, ◌∙◌, subst}
 use Rattle.std.specs.Prelude.{Option, Some, None}
 use Rattle.std.proofs.Math.Nat.{div-mul-le_self}
 use Rattle.std.proofs.lemmas.Nat.{le-div}
@@ -17,23 +17,20 @@ use Rattle.rasta_core.specs.Events.{Start}
 use Rattle.rasta_core.specs.Names.{Names, identity_of}
 use Rattle.rasta_core.specs.identity.Identity.{Identity}
 use Rattle.rasta_core.specs.identity.Role.TheVariants as role
-use Rattle.object_host.specs.Host.{HostState, HostSoFar, is_completed, is_outside, keeping, restrictive_from}
-use Rattle.object_host.specs.Hosted.{IsHosted, IsNamedAs, IsSteady, new_host}
+use Rattle.object_host.specs.Host.{HostState, HostSoFar, is_completed, is_outside, keeping}
+use Rattle.object_host.specs.Hosted.{IsHosted, IsSteady, new_host}
 use Rattle.object_host.specs.Object.{ObjectCall, Keeps, Ticks, object_after_all}
-use Rattle.object_host.specs.Step.{beginning, host_step, is_behind}
-use Rattle.object_host.specs.Strict.{IsBehind}
-use Rattle.object_host.specs.Told.{IsToldIn, calls_begun, has_lost, loses_behind, loss_where}
+use Rattle.object_host.specs.Step.{host_step}
+use Rattle.object_host.specs.Told.{IsToldIn, has_lost, loss_where}
 use Rattle.object_host.specs.declared.stage.Stage.{Stage}
 use Rattle.object_host.specs.declared.stage.Stage.TheVariants as stage
 use Rattle.object_host.specs.declared.input.Input.{Input}
 use Rattle.object_host.specs.declared.input.Input.TheVariants as inputs
-use Rattle.object_host_laws.specs.World.{begun as begun_world}
-use Rattle.object_host_laws.specs.World.{Commands, ClientRestarts, Elsewhere, Event, HostRestarts, Loses, Passes, Steps, World, entering, happened, host_of, host_restarted, step_of, stepped, told_since}
+use Rattle.object_host_laws.specs.World.{Commands, ClientRestarts, Elsewhere, Event, HostRestarts, Loses, Passes, Steps, World, begun, entering, happened, host_of, host_restarted, step_of, stepped, told_since}
 use Rattle.signal_ctl.specs.History.{last_aspect, last_kept}
 use Rattle.signal_ctl.specs.Lamp.{aspect_shown, standing}
 use Rattle.signal_ctl.specs.Signal.{SignalState, is_stop, signal_behaviour}
 use Rattle.object_host_laws.specs.Signal.{IsTold, aspect_due, last_indicated}
-use Rattle.object_host_laws.proofs.BehindHosts.{behind_of, restrictive_early}
 use Rattle.object_host_laws.proofs.Calls.{aspect_joined, begins, begins_lost, coming_is, ends, kept_last, paying_is, told_joined}
 
 -- a stopped signal indicates stop
@@ -71,19 +68,13 @@ shows world told =
     now : ℕ
     now = reading_of world.ends.server.clock
 
-    until : ℕ
-    until = restrictive_from (host_of world)
+    due : (b : Bool) → is_open link.phase ≡ b → standing (if b then last_indicated world.told Stop else Stop) (alive_until link) now ≡ aspect_due world
+    due b is = ap (λ (o : Bool). standing (if o then last_indicated world.told Stop else Stop) (alive_until link) now) (sym is)
 
-    past : alive_until link ≤ now → until ≤ now
-    past dead = omega (arith, dead, restrictive_early (host_of world))
-
-    due : (b : Bool) → is_open link.phase ≡ b → standing (if b then last_indicated world.told Stop else Stop) until now ≡ aspect_due world
-    due b is = ap (λ (o : Bool). standing (if o then last_indicated world.told Stop else Stop) until now) (sym is)
-
-    cases : (o out : Bool) → is_open link.phase ≡ o → is_outside world.stage ≡ out → standing world.object.lamp.indicated until now ≡ aspect_due world
-    cases true out opened is = ap (λ aspect. standing aspect until now) (told.inside opened) ∙ due true opened
-    cases false true closed is = ap (λ aspect. standing aspect until now) (idle_outside (host_of world) told.steady is) ∙ due false closed
-    cases false false closed is = dark world.object.lamp.indicated until now (past (told.late closed is)) ∙ due false closed
+    cases : (o out : Bool) → is_open link.phase ≡ o → is_outside world.stage ≡ out → standing world.object.lamp.indicated (alive_until link) now ≡ aspect_due world
+    cases true out opened is = ap (λ aspect. standing aspect (alive_until link) now) (told.inside opened) ∙ due true opened
+    cases false true closed is = ap (λ aspect. standing aspect (alive_until link) now) (idle_outside (host_of world) told.steady is) ∙ due false closed
+    cases false false closed is = dark world.object.lamp.indicated (alive_until link) now (told.late closed is) ∙ due false closed
 
 -- the clock rules leave the moment at which a link dies, and open none
 alive_by : (now : ℕ) (link : LinkState) (b : Bool) →
@@ -95,13 +86,6 @@ alive_by now link false = refl
 pub alive_settled : (now : ℕ) (link : LinkState) → alive_until (settled now link) ≡ alive_until link
 unfolding settled
 alive_settled now link = alive_by now link (is_open link.phase && nat_le (deadline link) now)
-
-pub restrictive_settled : {Object : Type 0} (now : ℕ) (host : HostState Object) → restrictive_from host ≡ restrictive_from (record host { link = settled now host.link })
-restrictive_settled now host = ap (λ alive. if host.is_strict then min host.caught_up_until alive else alive) (sym (alive_settled now host.link))
-
--- the same of a host that is as strict, with the same link
-pub restrictive_same : {Object : Type 0} (old new : HostState Object) → old.is_strict ≡ new.is_strict → old.caught_up_until ≡ new.caught_up_until → old.link ≡ new.link → restrictive_from old ≡ restrictive_from new
-restrictive_same old new strict caught link = λ i. if strict i then min (caught i) (alive_until (link i)) else alive_until (link i)
 
 open_by : (now : ℕ) (link : LinkState) (b : Bool) →
     is_open (if b then record link { phase = phase.Closed; closed_at = deadline link; clock = now } else record link { clock = now }).phase ≡ true → is_open link.phase ≡ true
@@ -144,7 +128,7 @@ pub passes : ((now : ℕ) (host : HostState SignalState) → IsSteady signal_beh
 unfolding later end_later
 passes clocked elapsed of_client of_server world told = record {
   steady = clocked now (host_of world) told.steady;
-  until = told.until ∙ restrictive_settled now (host_of world);
+  until = told.until ∙ sym (alive_settled now link);
   inside = λ opened. told.inside (open_before now link opened);
   late = λ closed inside. subst (λ until. until ≤ now) (sym (alive_settled now link)) (cases (is_open link.phase) refl closed inside);
 } where
@@ -174,14 +158,11 @@ stays_in (inputs.Sense sense) connection ends opened = refl
 
 module _
     (told_law : (now : ℕ) (input : Input) (host : HostState SignalState) → IsToldIn signal_behaviour now input host (host_step signal_behaviour now input host))
-    (names : (now : ℕ) (input : Input) (host : HostState SignalState) → IsNamedAs host (host_step signal_behaviour now input host).host)
     (hosted : (now : ℕ) (input : Input) (host : HostState SignalState) → IsSteady signal_behaviour host → IsHosted signal_behaviour (host_step signal_behaviour now input host).host)
     (steady_of : (host : HostState SignalState) → IsHosted signal_behaviour host → IsSteady signal_behaviour host)
     (link_law : (input : Input) (connection : ℕ) (world : World SignalState) → settled (reading_of world.ends.server.clock) world.ends.server.link ≡ world.ends.server.link
     → (stepped signal_behaviour input connection world).ends.server.link ≡ (step_of signal_behaviour input world).host.link)
     (outside_law : (input : Input) (connection : ℕ) (world : World SignalState) → entering input connection world.ends ≡ None → is_open world.ends.server.link.phase ≡ false
-    → is_open (stepped signal_behaviour input connection world).ends.server.link.phase ≡ false)
-    (behind_law : (input : Input) (connection : ℕ) (world : World SignalState) → IsBehind (reading_of world.ends.server.clock) (beginning signal_behaviour (reading_of world.ends.server.clock) (host_of world))
     → is_open (stepped signal_behaviour input connection world).ends.server.link.phase ≡ false)
     (indicated_law : (calls : List ObjectCall) (signal : SignalState) → (object_after_all signal_behaviour calls signal).lamp.indicated ≡ last_aspect calls signal.lamp.indicated)
     (until_law : (calls : List ObjectCall) (signal : SignalState) → (object_after_all signal_behaviour calls signal).lamp.until ≡ last_kept calls signal.lamp.until)
@@ -210,18 +191,8 @@ module _
         lost_is : is_lost_first ≡ (not (is_outside world.stage) && not (is_open world.ends.server.link.phase))
         lost_is = ap (λ (l : LinkState). not (is_outside world.stage) && not (is_open l.phase)) is_settled
 
-        abbrev pub begun : HostState SignalState
-        begun = beginning signal_behaviour now (host_of world)
-
         abbrev pub first : List ObjectCall
-        first = calls_begun signal_behaviour now (host_of world)
-
-        -- where the link is open after the step it wasn't behind
-        stays : is_open new.ends.server.link.phase ≡ true → loses_behind now begun ≡ false
-        stays opened_after = cases (is_behind now begun) refl where
-          cases : (b : Bool) → is_behind now begun ≡ b → (b && not (is_outside begun.stage)) ≡ false
-          cases true is = absurd (true≢false (sym opened_after ∙ behind_law input connection world (behind_of now begun is)))
-          cases false is = refl
+        first = loss_where is_lost_first ++ Ticks now ∷ []
 
         -- the signal as what comes finds it, where the link is open after the step
         found : is_open new.ends.server.link.phase ≡ true → last_aspect first world.object.lamp.indicated ≡ last_indicated (told_since (entering input connection world.ends) world.told) Stop
@@ -231,7 +202,7 @@ module _
           old = world.object.lamp.indicated
 
           from : (b : Bool) → is_lost_first ≡ b → last_aspect first old ≡ last_aspect (loss_where b ++ Ticks now ∷ []) old
-          from b is = λ i. last_aspect (loss_where (is i) ++ Ticks now ∷ loss_where (stays opened_after i)) old
+          from b is = ap (λ (lost : Bool). last_aspect (loss_where lost ++ Ticks now ∷ []) old) is
 
           enters : (e : Option ℕ) → entering input connection world.ends ≡ e → is_open world.ends.server.link.phase ≡ false →
               last_aspect first old ≡ last_indicated (told_since e world.told) Stop
@@ -253,24 +224,24 @@ module _
             let after = hosted now input (host_of world) told.steady
             in let steady = steady_of part.host after
             in let during = tells.comes ++ tells.pays
-            in let last : Bool → List ObjectCall = λ lost. loss_where lost ++ Keeps (restrictive_from part.host) ∷ []
+            in let last : Bool → List ObjectCall = λ lost. loss_where lost ++ Keeps (alive_until part.host.link) ∷ []
             in let open_is : is_open new.ends.server.link.phase ≡ is_open part.host.link.phase = ap (λ (l : LinkState). is_open l.phase) link_is
             in record {
               steady = record { outside = λ out. open_is ∙ steady.outside out; idle = steady.idle };
               until = ap (λ (s : SignalState). s.lamp.until) tells.object_is
                   ∙ until_law (first ++ (during ++ last tells.is_lost)) world.object
                   ∙ ap (λ calls. last_kept calls world.object.lamp.until)
-                  (ap (λ calls. first ++ calls) (sym (append_assoc during (loss_where tells.is_lost) (Keeps (restrictive_from part.host) ∷ [])))
-                  ∙ sym (append_assoc first (during ++ loss_where tells.is_lost) (Keeps (restrictive_from part.host) ∷ [])))
-                  ∙ kept_last (first ++ (during ++ loss_where tells.is_lost)) (restrictive_from part.host) world.object.lamp.until
-                  ∙ restrictive_same part.host (host_of new) (names now input (host_of world)).is_strict refl (sym link_is);
+                  (ap (λ calls. first ++ calls) (sym (append_assoc during (loss_where tells.is_lost) (Keeps (alive_until part.host.link) ∷ [])))
+                  ∙ sym (append_assoc first (during ++ loss_where tells.is_lost) (Keeps (alive_until part.host.link) ∷ [])))
+                  ∙ kept_last (first ++ (during ++ loss_where tells.is_lost)) (alive_until part.host.link) world.object.lamp.until
+                  ∙ ap alive_until (sym link_is);
               inside = λ opened.
                   ap (λ (s : SignalState). s.lamp.indicated) tells.object_is
                   ∙ indicated_law (first ++ (during ++ last tells.is_lost)) world.object
                   ∙ ap (λ lost. last_aspect (first ++ (during ++ last lost)) world.object.lamp.indicated) (tells.stays (sym open_is ∙ opened))
                   ∙ aspect_joined first (during ++ last false) world.object.lamp.indicated
                   ∙ aspect_joined during (last false) (last_aspect first world.object.lamp.indicated)
-                  ∙ ends (restrictive_from part.host) (last_aspect during (last_aspect first world.object.lamp.indicated))
+                  ∙ ends (alive_until part.host.link) (last_aspect during (last_aspect first world.object.lamp.indicated))
                   ∙ aspect_joined tells.comes tells.pays (last_aspect first world.object.lamp.indicated)
                   ∙ paying_is tells.pays (last_aspect tells.comes (last_aspect first world.object.lamp.indicated)) tells.are_payments
                   ∙ coming_is now tells.comes (last_aspect first world.object.lamp.indicated) tells.are_coming
@@ -282,8 +253,8 @@ module _
 
     module _
         (clocked : (now : ℕ) (host : HostState SignalState) → IsSteady signal_behaviour host → IsSteady signal_behaviour (record host { link = settled now host.link }))
-        (new_law : (identity : Identity) (own_name peer_name : List ℕ) (number moment : ℕ) (signal : SignalState) (version : ℕ) (is_strict : Bool)
-        → IsHosted signal_behaviour (new_host signal_behaviour identity own_name peer_name number moment signal version is_strict))
+        (new_law : (identity : Identity) (own_name peer_name : List ℕ) (number moment : ℕ) (signal : SignalState) (version : ℕ)
+        → IsHosted signal_behaviour (new_host signal_behaviour identity own_name peer_name number moment signal version))
       where
         -- only the client, or the network
         elsewhere : (world new : World SignalState) → new.ends.server ≡ world.ends.server → host_of new ≡ host_of world → new.told ≡ world.told → IsTold world → IsTold new
@@ -293,7 +264,7 @@ module _
             in let lamp-same : new.object.lamp.indicated ≡ world.object.lamp.indicated = ap (λ (h : HostState SignalState). h.object.lamp.indicated) host-same
             in record {
               steady = subst (IsSteady signal_behaviour) (sym host-same) told.steady;
-              until = ap (λ (h : HostState SignalState). h.object.lamp.until) host-same ∙ told.until ∙ ap restrictive_from (sym host-same);
+              until = ap (λ (h : HostState SignalState). h.object.lamp.until) host-same ∙ told.until ∙ ap alive_until (sym link-same);
               inside = λ opened. lamp-same ∙ told.inside (sym open-same ∙ opened) ∙ ap (λ ts. last_indicated ts Stop) (sym told-same);
               late = λ closed inside. subst (λ (e : EndState). alive_until e.link ≤ reading_of e.clock) (sym server-same)
                   (told.late (sym open-same ∙ closed) (sym (ap (λ (h : HostState SignalState). is_outside h.stage) host-same) ∙ inside));
@@ -308,18 +279,18 @@ module _
         event_told (Loses bytes) world is_settled told = elsewhere world _ refl refl refl told
         event_told (ClientRestarts clock number) world is_settled told = elsewhere world _ refl refl refl told
         event_told (HostRestarts clock number signal) world is_settled told = record {
-          steady = steady_of _ (new_law world.ends.server.link.identity world.own_name world.peer_name number clock signal world.version world.is_strict);
+          steady = steady_of _ (new_law world.ends.server.link.identity world.own_name world.peer_name number clock signal world.version);
           until = refl;
           inside = λ opened. absurd (false≢true opened);
           late = λ closed inside. absurd (true≢false inside);
         }
         event_told (Elsewhere count) world is_settled told = elsewhere world _ refl refl refl told
 
-        pub begun_told : (names : Names) (start : Start) (own_name peer_name : List ℕ) (signal : SignalState) (version : ℕ) (is_strict : Bool) →
-            IsTold (begun_world signal_behaviour names start own_name peer_name signal version is_strict)
+        pub begun_told : (names : Names) (start : Start) (own_name peer_name : List ℕ) (signal : SignalState) (version : ℕ) →
+            IsTold (begun signal_behaviour names start own_name peer_name signal version)
         unfolding new_host keeping created alive_until deadline
-        begun_told names start own_name peer_name signal version is_strict = record {
-          steady = steady_of _ (new_law (identity_of role.Server names) own_name peer_name start.server_first start.server_clock signal version is_strict);
+        begun_told names start own_name peer_name signal version = record {
+          steady = steady_of _ (new_law (identity_of role.Server names) own_name peer_name start.server_first start.server_clock signal version);
           until = refl;
           inside = λ opened. absurd (false≢true opened);
           late = λ closed inside. absurd (true≢false inside);

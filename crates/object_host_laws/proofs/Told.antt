@@ -1,48 +1,40 @@
 -- What is true of a world after every list of events: what the host acted on is a beginning of what its end took.
-use Rattle.std.proofs.Common.{◌≡◌, ℕ, inl, inr, Bool, true, false, List, [], ◌∷◌, ◌++◌, append_assoc, refl, ap, sym, ◌∙◌, subst}
+use Rattle.std.proofs.Common.{◌≡◌, ℕ, false, List, [], ◌∷◌, ◌++◌, append_assoc, refl, ap, sym, ◌∙◌, subst}
 use Rattle.std.specs.Prelude.{Option, None, Some}
 use Rattle.std.proofs.lemmas.List.{append-nil}
-use Rattle.rasta_core.specs.State.{LinkState, is_open, is_up}
+use Rattle.rasta_core.specs.State.{LinkState, is_open}
 use Rattle.rasta_core.specs.Clock.{settled}
 use Rattle.rasta_core.specs.identity.Role.TheVariants as role
 use Rattle.rasta_core.specs.Ends as calls
-use Rattle.rasta_core.specs.Ends.{kept, newer}
+use Rattle.rasta_core.specs.Ends.{kept}
 use Rattle.rasta_core.specs.Run.{Ends, called}
 use Rattle.rasta_core.specs.Events as links
-use Rattle.rasta_core.specs.Events.{IsAmong, MayCall, Start, started}
-use Rattle.rasta_core.specs.reason.Reason.TheVariants as reason
+use Rattle.rasta_core.specs.Events.{MayCall, Start, started}
 use Rattle.rasta_core.specs.Names.{Names}
 use Rattle.rasta_core.specs.Safe.{AreSafe}
 use Rattle.object_host.specs.Behaviour.{Behaviour}
 use Rattle.object_host.specs.Host.{HostState, LinkCall, Ticks, Closes, Sends, Receives}
 use Rattle.object_host.specs.Made.{ActsOn, AreCallsFor, AreItems, AreOwn, IsMadeOf, calls_made, commands_of, items_given, items_taken}
-use Rattle.object_host.specs.Step.{beginning, host_step}
-use Rattle.object_host.specs.Strict.{ClosesFirst, IsBehind}
+use Rattle.object_host.specs.Step.{host_step}
 use Rattle.object_host.specs.declared.input.Input.{Input}
 use Rattle.object_host.specs.declared.input.Input.TheVariants as inputs
 use Rattle.object_host_laws.specs.Acted.{IsActedOn}
 use Rattle.object_host_laws.proofs.Acted.{other_event, step_acted}
 use Rattle.object_host_laws.specs.World.{Commands, ClientRestarts, Elsewhere, Event, HostRestarts, IsTold, Loses, May, MayHear, MayRun, Passes, Steps, World, as_call, begun, called_all, entering, happened, host_of, host_restarted, run, step_of, stepped}
-use Rattle.object_host_laws.proofs.BehindHosts.{begun_link}
-use Rattle.object_host_laws.proofs.Server.{OpensNothing, clock_after, closes_idle, closes_out, connection_after, enters_none_behind, given_after, links_after, now_of, stays_out, taken_after}
+use Rattle.object_host_laws.proofs.Server.{OpensNothing, clock_after, given_after, links_after, now_of, stays_out, taken_after}
 
 -- what a step takes and gives is what the end has taken and given by it
-pub step_taken : {Object : Type 0} (does : Behaviour Object) (input : Input) (connection : ℕ) (world : World Object) → AreCallsFor (now_of world.ends) world.ends.server.link input (step_of does input world).calls →
+pub step_taken : {Object : Type 0} (does : Behaviour Object) (input : Input) (connection : ℕ) (world : World Object) → AreCallsFor input (step_of does input world).calls →
     (stepped does input connection world).ends.server.taken
     ≡ kept (entering input connection world.ends) world.ends.server.taken ++ items_taken (now_of world.ends) (step_of does input world).calls world.ends.server.link
 unfolding stepped
 step_taken does input connection world first = taken_after connection input (step_of does input world).calls world.ends first
 
-pub step_given : {Object : Type 0} (does : Behaviour Object) (input : Input) (connection : ℕ) (world : World Object) → AreCallsFor (now_of world.ends) world.ends.server.link input (step_of does input world).calls →
+pub step_given : {Object : Type 0} (does : Behaviour Object) (input : Input) (connection : ℕ) (world : World Object) → AreCallsFor input (step_of does input world).calls →
     (stepped does input connection world).ends.server.given
     ≡ kept (entering input connection world.ends) world.ends.server.given ++ items_given (now_of world.ends) (step_of does input world).calls world.ends.server.link
 unfolding stepped
 step_given does input connection world first = given_after connection input (step_of does input world).calls world.ends first
-
-pub step_connection : {Object : Type 0} (does : Behaviour Object) (input : Input) (connection : ℕ) (world : World Object) → AreCallsFor (now_of world.ends) world.ends.server.link input (step_of does input world).calls →
-    (stepped does input connection world).ends.server.connection ≡ newer (entering input connection world.ends) world.ends.server.connection
-unfolding stepped
-step_connection does input connection world first = connection_after connection input (step_of does input world).calls world.ends first
 
 pub step_link : {Object : Type 0} (does : Behaviour Object) → ((now : ℕ) (input : Input) (host : HostState Object) → IsMadeOf now (settled now host.link) (host_step does now input host)) →
     (input : Input) (connection : ℕ) (world : World Object) → settled (now_of world.ends) world.ends.server.link ≡ world.ends.server.link →
@@ -57,7 +49,7 @@ pub step_clock : {Object : Type 0} (does : Behaviour Object) (input : Input) (co
 unfolding stepped
 step_clock does input connection world = clock_after connection (step_of does input world).calls world.ends
 
-pub step_outside : {Object : Type 0} (does : Behaviour Object) → OpensNothing → ((now : ℕ) (input : Input) (host : HostState Object) → AreCallsFor now host.link input (host_step does now input host).calls) →
+pub step_outside : {Object : Type 0} (does : Behaviour Object) → OpensNothing → ((now : ℕ) (input : Input) (host : HostState Object) → AreCallsFor input (host_step does now input host).calls) →
     (input : Input) (connection : ℕ) (world : World Object) → entering input connection world.ends ≡ None → is_open world.ends.server.link.phase ≡ false →
     is_open (stepped does input connection world).ends.server.link.phase ≡ false
 unfolding stepped
@@ -66,22 +58,8 @@ step_outside does opens calls_for input connection world stays closed =
     in ap (λ (l : LinkState). is_open l.phase) (links_after connection part.calls world.ends)
     ∙ (stays_out opens connection input part.calls world.ends (calls_for (now_of world.ends) input (host_of world)) stays closed).out
 
--- a step that closes a link which isn't caught up any more leaves it outside
-pub step_behind : {Object : Type 0} (does : Behaviour Object) → OpensNothing → ((now : ℕ) (input : Input) (host : HostState Object) → AreCallsFor now host.link input (host_step does now input host).calls) →
-    ((now : ℕ) (input : Input) (host : HostState Object) → IsBehind now (beginning does now host) → ClosesFirst does now host (host_step does now input host)) →
-    (input : Input) (connection : ℕ) (world : World Object) → IsBehind (now_of world.ends) (beginning does (now_of world.ends) (host_of world)) →
-    is_open (stepped does input connection world).ends.server.link.phase ≡ false
-unfolding stepped
-step_behind does opens calls_for closes input connection world is =
-    let now = now_of world.ends
-    in let part = step_of does input world
-    in let first = closes now input (host_of world) is
-    in let up : is_up (settled now world.ends.server.link).phase ≡ true = ap (λ (l : LinkState). is_up l.phase) (sym (begun_link does now (host_of world))) ∙ is.up
-    in ap (λ (l : LinkState). is_open l.phase) (links_after connection part.calls world.ends)
-    ∙ closes_out opens now input part.calls first.others world.ends.server.link (calls_for now input (host_of world)) first.calls up
-
 -- out of a connection, and where it enters none, it takes and gives nothing
-pub step_idle : {Object : Type 0} (does : Behaviour Object) → OpensNothing → ((now : ℕ) (input : Input) (host : HostState Object) → AreCallsFor now host.link input (host_step does now input host).calls) →
+pub step_idle : {Object : Type 0} (does : Behaviour Object) → OpensNothing → ((now : ℕ) (input : Input) (host : HostState Object) → AreCallsFor input (host_step does now input host).calls) →
     (input : Input) (connection : ℕ) (world : World Object) → entering input connection world.ends ≡ None → is_open world.ends.server.link.phase ≡ false →
     ((stepped does input connection world).ends.server.taken ≡ world.ends.server.taken) × ((stepped does input connection world).ends.server.given ≡ world.ends.server.given)
 step_idle does opens calls_for input connection world stays closed =
@@ -97,55 +75,13 @@ step_idle does opens calls_for input connection world stays closed =
           ∙ ap (λ items. world.ends.server.given ++ items) out.none_given ∙ append-nil world.ends.server.given,
     )
 
--- nor does one that closes its link for not being caught up
-pub step_behind_idle : {Object : Type 0} (does : Behaviour Object) → OpensNothing → ((now : ℕ) (input : Input) (host : HostState Object) → AreCallsFor now host.link input (host_step does now input host).calls) →
-    ((now : ℕ) (input : Input) (host : HostState Object) → IsBehind now (beginning does now host) → ClosesFirst does now host (host_step does now input host)) →
-    (input : Input) (connection : ℕ) (world : World Object) → IsBehind (now_of world.ends) (beginning does (now_of world.ends) (host_of world)) →
-    ((stepped does input connection world).ends.server.taken ≡ world.ends.server.taken) × ((stepped does input connection world).ends.server.given ≡ world.ends.server.given)
-step_behind_idle does opens calls_for closes input connection world is =
-    let now = now_of world.ends
-    in let part = step_of does input world
-    in let made = calls_for now input (host_of world)
-    in let first = closes now input (host_of world) is
-    in let up : is_up (settled now world.ends.server.link).phase ≡ true = ap (λ (l : LinkState). is_up l.phase) (sym (begun_link does now (host_of world))) ∙ is.up
-    in let none = enters_none_behind connection input world.ends up
-    in let idle = closes_idle opens now input part.calls first.others world.ends.server.link made first.calls up
-    in (
-      step_taken does input connection world made
-          ∙ ap (λ (e : Option ℕ). kept e world.ends.server.taken ++ items_taken now part.calls world.ends.server.link) none
-          ∙ ap (λ items. world.ends.server.taken ++ items) idle.0 ∙ append-nil world.ends.server.taken,
-      step_given does input connection world made
-          ∙ ap (λ (e : Option ℕ). kept e world.ends.server.given ++ items_given now part.calls world.ends.server.link) none
-          ∙ ap (λ items. world.ends.server.given ++ items) idle.1 ∙ append-nil world.ends.server.given,
-    )
-
--- what may be received may be so behind a call of the end's own, which only sends more
-among_more : (datagram : calls.Sent) (first more : List calls.Sent) → IsAmong datagram first → IsAmong datagram (first ++ more)
-among_more datagram [] more is = absurd is
-among_more datagram (one ∷ others) more (inl is) = inl is
-among_more datagram (one ∷ others) more (inr is) = inr (among_more datagram others more is)
-
-still_may : (names : Names) (call : calls.Call) (bytes : List ℕ) (connection : ℕ) (ends : Ends) → MayCall names role.Server (calls.Receives bytes connection) ends →
-    MayCall names role.Server (calls.Receives bytes connection) (called role.Server call ends)
-unfolding called
-still_may names call bytes connection ends (inl delivered) = inl (
-  delivered.0,
-  record {
-    was_sent = among_more delivered.0 ends.sent _ delivered.1.was_sent;
-    bytes_same = delivered.1.bytes_same;
-    connection_same = delivered.1.connection_same;
-    in_time = delivered.1.in_time;
-  },
-)
-still_may names call bytes connection ends (inr other) = inr other
-
 module _ {Object : Type 0} (does : Behaviour Object) (names : Names)
     -- the laws of the link and of the steps of a host
     (Sound : Ends → Type 0)
     (keeps : (event : links.Event) (ends : Ends) → Sound ends → links.May names event ends → Sound (links.happened event ends))
     (is_settled : (ends : Ends) → Sound ends → settled (now_of ends) ends.server.link ≡ ends.server.link)
     (opens : OpensNothing)
-    (calls_for : (now : ℕ) (input : Input) (host : HostState Object) → AreCallsFor now host.link input (host_step does now input host).calls)
+    (calls_for : (now : ℕ) (input : Input) (host : HostState Object) → AreCallsFor input (host_step does now input host).calls)
     (made_of : (now : ℕ) (input : Input) (host : HostState Object) → IsMadeOf now (settled now host.link) (host_step does now input host))
     (acts_on : (now : ℕ) (input : Input) (host : HostState Object) → ActsOn (items_taken now (host_step does now input host).calls (settled now host.link)) (host_step does now input host))
   where
@@ -171,23 +107,12 @@ module _ {Object : Type 0} (does : Behaviour Object) (names : Names)
     received_sound connection bytes others ends own items may sound =
         own_sound connection others (called role.Server (as_call connection (Receives bytes)) ends) own items (keeps (links.Calls role.Server (as_call connection (Receives bytes))) ends sound may)
 
-    -- the link is closed first: what may come then may still come
-    closed_sound : (connection : ℕ) (bytes : List ℕ) (others : List LinkCall) (ends : Ends) → AreOwn others → AreItems others →
-        MayCall names role.Server (calls.Receives bytes connection) ends → Sound ends → Sound (called_all connection (Closes reason.User ∷ Receives bytes ∷ others) ends)
-    unfolding called_all
-    closed_sound connection bytes others ends own items may sound =
-        received_sound connection bytes others (called role.Server (as_call connection (Closes reason.User)) ends) own items (still_may names (as_call connection (Closes reason.User)) bytes connection ends may)
-        (keeps (links.Calls role.Server (as_call connection (Closes reason.User))) ends sound tt)
-
-    step_sound : (connection : ℕ) (input : Input) (made : List LinkCall) (ends : Ends) → AreCallsFor (now_of ends) ends.server.link input made → MayHear names input connection ends → AreItems made →
+    step_sound : (connection : ℕ) (input : Input) (made : List LinkCall) (ends : Ends) → AreCallsFor input made → MayHear names input connection ends → AreItems made →
         Sound ends → Sound (called_all connection made ends)
     step_sound connection inputs.Tick made ends own may items sound = own_sound connection made ends own items sound
     step_sound connection (inputs.Datagram bytes) made ends first may items sound =
-        elim first.1 [
-          | inl is ↦ subst (λ cs. Sound (called_all connection cs ends)) (sym is) (received_sound connection bytes.now first.0 ends first.2 (subst AreItems is items) may sound)
-          | inr both ↦ subst (λ cs. Sound (called_all connection cs ends)) (sym both.0)
-              (closed_sound connection bytes.now first.0 ends first.2 (subst AreItems both.0 items) may sound)
-        ]
+        subst (λ cs. Sound (called_all connection cs ends)) (sym first.1)
+        (received_sound connection bytes.now first.0 ends first.2 (subst AreItems first.1 items) may sound)
     step_sound connection (inputs.Sense sense) made ends own may items sound = own_sound connection made ends own items sound
 
     event_acted : (event : Event Object) (world : World Object) → settled (now_of world.ends) world.ends.server.link ≡ world.ends.server.link →
@@ -225,9 +150,9 @@ module _ {Object : Type 0} (does : Behaviour Object) (names : Names)
     run_holds [] world holds may = holds
     run_holds (event ∷ others) world holds may = run_holds others (happened does event world) (event_holds event world holds may.0) may.1
 
-    pub begun_holds : (start : Start) (own_name peer_name : List ℕ) (object : Object) (version : ℕ) (is_strict : Bool) → Sound (started names start) → Holds (begun does names start own_name peer_name object version is_strict)
+    pub begun_holds : (start : Start) (own_name peer_name : List ℕ) (object : Object) (version : ℕ) → Sound (started names start) → Holds (begun does names start own_name peer_name object version)
     unfolding commands_of
-    begun_holds start own_name peer_name object version is_strict sound = record { sound = sound; acted = record { dropped = []; beginning = refl; whole = λ _. refl; told_is = refl } }
+    begun_holds start own_name peer_name object version sound = record { sound = sound; acted = record { dropped = []; beginning = refl; whole = λ _. refl; told_is = refl } }
 
     pub holds_told : (world : World Object) → Holds world → AreSafe world.ends → (connection : ℕ) →
         world.ends.client.connection ≡ Some connection → world.ends.server.connection ≡ Some connection → IsTold world

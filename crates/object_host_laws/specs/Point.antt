@@ -7,14 +7,14 @@ use Rattle.sci_telegram.specs.declared.message.PointMessage.TheVariants.{PointPo
 use Rattle.sci_telegram.specs.declared.message.Position.{Position}
 use Rattle.sci_telegram.specs.declared.message.Side.{Side}
 use Rattle.sci_telegram.specs.declared.telegram.Telegram.{Telegram}
-use Rattle.rasta_core.specs.State.{LinkState, is_open}
+use Rattle.rasta_core.specs.State.{is_open}
 use Rattle.rasta_core.specs.Clock.{alive_until, settled}
 use Rattle.rasta_core.specs.Ends.{reading_of}
-use Rattle.object_host.specs.Host.{HostState, HostSoFar, is_completed, is_outside, restrictive_from, said}
+use Rattle.object_host.specs.Host.{HostState, HostSoFar, is_completed, is_outside, said}
 use Rattle.object_host.specs.Hosted.{IsSteady}
 use Rattle.object_host.specs.Object.{object_after_all}
-use Rattle.object_host.specs.Step.{beginning, found, given}
-use Rattle.object_host.specs.Told.{AreSomeOf, IsToldIn, IsVersionAnswer, has_lost, item_of, loses_behind}
+use Rattle.object_host.specs.Step.{beginning, given}
+use Rattle.object_host.specs.Told.{AreSomeOf, IsToldIn, IsVersionAnswer, has_lost, item_of}
 use Rattle.object_host.specs.declared.input.Input.{Input}
 use Rattle.object_host.specs.declared.input.Input.TheVariants as inputs
 use Rattle.object_host.specs.declared.report.Report.{Report}
@@ -49,15 +49,12 @@ initial_reports stands =
 abbrev pub is_moving : PointState → Bool
 is_moving point = is_some (move_in point.progress)
 
--- the point and the link as a step finds them, and the stage that what comes leads to
+-- the point as a step finds it, and the stage that what comes leads to
 abbrev pub found_by : ℕ → HostState PointState → PointState
-found_by now host = (found point_behaviour now host).host.object
-
-abbrev pub link_found : ℕ → HostState PointState → LinkState
-link_found now host = (found point_behaviour now host).host.link
+found_by now host = (beginning point_behaviour now host).object
 
 abbrev pub stage_by : ℕ → Input → HostState PointState → Stage
-stage_by now input host = (given point_behaviour now input (found point_behaviour now host).host).host.stage
+stage_by now input host = (given point_behaviour now input (beginning point_behaviour now host)).host.stage
 
 -- as what comes leaves it
 abbrev pub moved_by : {now : ℕ} {input : Input} {host : HostState PointState} {part : HostSoFar PointState} → IsToldIn point_behaviour now input host part → PointState
@@ -66,12 +63,9 @@ moved_by {now} {input} {host} {part} tells = object_after_all point_behaviour te
 -- What a step does to a point and what the point reports in it.
 pub record IsPointStep (now : ℕ) (input : Input) (host : HostState PointState) (part : HostSoFar PointState) : Type 0 where
   pub tells : IsToldIn point_behaviour now input host part
-  -- it is found as it was, with a drive at its limit ended; where the clock rules have closed its link, or it isn't caught up any
-  -- more and closes, as after a loss
-  pub stays : has_lost (record host { link = settled now host.link }) ≡ false → loses_behind now (beginning point_behaviour now host) ≡ false
-      → found_by now host ≡ ticking now host.object
+  -- it is found as it was, with a drive at its limit ended; where the clock rules have closed its link, as after a loss
+  pub stays : has_lost (record host { link = settled now host.link }) ≡ false → found_by now host ≡ ticking now host.object
   pub lost : has_lost (record host { link = settled now host.link }) ≡ true → found_by now host ≡ ticking now (losing host.object)
-  pub closed : loses_behind now (beginning point_behaviour now host) ≡ true → found_by now host ≡ losing host.object
   -- as what comes leaves it, it stands where its contacts tell, and at most the moves told wait for their reports besides
   -- the one before; where the link stays open each telegram told is a move
   pub stands : (moved_by tells).sensed ≡ position_told input host.object.sensed
@@ -94,7 +88,7 @@ pub record IsPointStep (now : ℕ) (input : Input) (host : HostState PointState)
   -- after the step it stands there; in a connection it is driven as before the reports, and each move that waits no longer
   -- had its report
   pub stands_after : part.host.object.sensed ≡ (moved_by tells).sensed
-  pub until : part.host.object.until ≡ restrictive_from part.host
+  pub until : part.host.object.until ≡ alive_until part.host.link
   pub inside : is_open part.host.link.phase ≡ true → is_moving part.host.object ≡ is_moving (moved_by tells)
   pub answers : is_open part.host.link.phase ≡ true → is_completed (stage_by now input host) ≡ true
       → length tells.reports + unanswered part.host.object.progress ≡ unanswered (moved_by tells).progress
@@ -124,7 +118,7 @@ pub record IsReporting (items : List (List ℕ)) (told : List Telegram) (host : 
 -- has come.
 pub record IsReported (world : World PointState) : Type 0 where
   pub steady : IsSteady point_behaviour (host_of world)
-  pub until : world.object.until ≡ restrictive_from (host_of world)
+  pub until : world.object.until ≡ alive_until world.ends.server.link
   pub answered : is_completed world.stage ≡ false → world.object.progress ≡ Answered
   pub inside : is_open world.ends.server.link.phase ≡ true → IsReporting world.ends.server.given world.told (host_of world)
   pub late : is_open world.ends.server.link.phase ≡ false → is_outside world.stage ≡ false
@@ -132,13 +126,13 @@ pub record IsReported (world : World PointState) : Type 0 where
 
 -- the host as a step finds it, but for its link
 abbrev pub found_host : ℕ → HostState PointState → HostState PointState
-found_host now host = record host { stage = (found point_behaviour now host).host.stage; object = found_by now host }
+found_host now host = record host { stage = (beginning point_behaviour now host).stage; object = found_by now host }
 
 -- How a step finds a point, where these are the items given and the telegrams told in its connection: it has reported so;
 -- until the initialisation was completed every move is answered; and it is driven only if it was before.
 pub record IsFound (now : ℕ) (items : List (List ℕ)) (told : List Telegram) (host : HostState PointState) : Type 0 where
   pub reporting : IsReporting items told (found_host now host)
-  pub answered : is_completed (found point_behaviour now host).host.stage ≡ false → (found_by now host).progress ≡ Answered
+  pub answered : is_completed (beginning point_behaviour now host).stage ≡ false → (found_by now host).progress ≡ Answered
   pub drive : is_moving (found_by now host) ≡ true → is_moving host.object ≡ true
 
 -- a report that tells a position tells this one

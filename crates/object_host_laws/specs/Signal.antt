@@ -6,7 +6,7 @@ use Rattle.sci_telegram.specs.declared.telegram.Telegram.{Telegram}
 use Rattle.rasta_core.specs.State.{is_open}
 use Rattle.rasta_core.specs.Clock.{alive_until}
 use Rattle.rasta_core.specs.Ends.{reading_of}
-use Rattle.object_host.specs.Host.{is_outside, restrictive_from}
+use Rattle.object_host.specs.Host.{is_outside}
 use Rattle.object_host.specs.Hosted.{IsSteady}
 use Rattle.object_host_laws.specs.World.{World, host_of}
 use Rattle.signal_ctl.specs.History.{or_else}
@@ -22,14 +22,14 @@ last_indicated (telegram ∷ others) last = last_indicated others (or_else (indi
 abbrev pub aspect_taken : World SignalState → Aspect
 aspect_taken world = if is_open world.ends.server.link.phase then last_indicated world.told Stop else Stop
 
--- it stands below the moment from which the host has its object be restrictive, and is stop from then on
+-- it stands below the moment at which the link dies, and is stop from then on
 abbrev pub aspect_due : World SignalState → Aspect
-aspect_due world = standing (aspect_taken world) (restrictive_from (host_of world)) (reading_of world.ends.server.clock)
+aspect_due world = standing (aspect_taken world) (alive_until world.ends.server.link) (reading_of world.ends.server.clock)
 
 -- What a signal in its host was told. The clock alone tells it of no loss, but then its moment has come.
 pub record IsTold (world : World SignalState) : Type 0 where
   pub steady : IsSteady signal_behaviour (host_of world)
-  pub until : world.object.lamp.until ≡ restrictive_from (host_of world)
+  pub until : world.object.lamp.until ≡ alive_until world.ends.server.link
   pub inside : is_open world.ends.server.link.phase ≡ true → world.object.lamp.indicated ≡ last_indicated world.told Stop
   pub late : is_open world.ends.server.link.phase ≡ false → is_outside world.stage ≡ false
       → alive_until world.ends.server.link ≤ reading_of world.ends.server.clock

@@ -1,5 +1,5 @@
 -- A commanding client, the host that is the server of its link, and the datagrams between them.
-use Rattle.std.specs.Prelude.{◌≡◌, ℕ, ◌+◌, Bool, List, [], ◌∷◌, ◌++◌, Option, Some, None}
+use Rattle.std.specs.Prelude.{◌≡◌, ℕ, ◌+◌, List, [], ◌∷◌, ◌++◌, Option, Some, None}
 use Rattle.sci_telegram.specs.declared.telegram.Telegram.{Telegram}
 use Rattle.rasta_core.specs.identity.Role.TheVariants as role
 use Rattle.rasta_core.specs.Ends as calls
@@ -19,15 +19,12 @@ use Rattle.object_host.specs.declared.stage.Stage.{Stage}
 pub record World (Object : Type 0) : Type 0 where
   -- the two ends of the link, of which the host is the server, and the datagrams between them
   pub ends : Ends
-  -- until when the host is caught up
-  pub caught_up_until : ℕ
   pub stage : Stage
   pub object : Object
   pub own_name : List ℕ
   pub peer_name : List ℕ
-  -- the version of the telegrams that the host speaks, and whether it is strict
+  -- the version of the telegrams that the host speaks
   pub version : ℕ
-  pub is_strict : Bool
   -- the items that the host acted on in its last connection, and the telegrams that the object was told there
   pub acted : List (List ℕ)
   pub told : List Telegram
@@ -80,13 +77,11 @@ module _ {Object : Type 0} where
   abbrev pub host_of : World Object → HostState Object
   host_of world = record {
     link = world.ends.server.link;
-    caught_up_until = world.caught_up_until;
     stage = world.stage;
     object = world.object;
     own_name = world.own_name;
     peer_name = world.peer_name;
     version = world.version;
-    is_strict = world.is_strict;
   }
 
   -- the step that the host makes at its clock
@@ -98,7 +93,6 @@ module _ {Object : Type 0} where
       let step = step_of does input world
       in record world {
         ends = called_all connection step.calls world.ends;
-        caught_up_until = step.host.caught_up_until;
         stage = step.host.stage;
         object = step.host.object;
         acted = kept (entering input connection world.ends) world.acted ++ step.acted;
@@ -108,10 +102,9 @@ module _ {Object : Type 0} where
   -- the host is made anew; what was told in its last connection stays until the next one
   unfoldable pub host_restarted : Behaviour Object → ℕ → ℕ → Object → World Object → World Object
   host_restarted does clock first_sequence_number object world =
-      let made = new_host does world.ends.server.link.identity world.own_name world.peer_name first_sequence_number clock object world.version world.is_strict
+      let made = new_host does world.ends.server.link.identity world.own_name world.peer_name first_sequence_number clock object world.version
       in record world {
         ends = restarted role.Server clock first_sequence_number world.ends;
-        caught_up_until = made.caught_up_until;
         stage = made.stage;
         object = made.object;
       }
@@ -145,18 +138,16 @@ module _ {Object : Type 0} where
   MayRun does names (first ∷ others) world = May does names first world × MayRun does names others (happened does first world)
 
   -- at the beginning nothing was sent or told
-  abbrev pub begun : Behaviour Object → Names → Start → List ℕ → List ℕ → Object → ℕ → Bool → World Object
-  begun does names start own_name peer_name object version is_strict =
-      let made = new_host does (identity_of role.Server names) own_name peer_name start.server_first start.server_clock object version is_strict
+  abbrev pub begun : Behaviour Object → Names → Start → List ℕ → List ℕ → Object → ℕ → World Object
+  begun does names start own_name peer_name object version =
+      let made = new_host does (identity_of role.Server names) own_name peer_name start.server_first start.server_clock object version
       in record {
         ends = started names start;
-        caught_up_until = made.caught_up_until;
         stage = made.stage;
         object = made.object;
         own_name = own_name;
         peer_name = peer_name;
         version = version;
-        is_strict = is_strict;
         acted = [];
         told = [];
       }

@@ -1,6 +1,6 @@
 //! What a signal shows, by what its host acted on in the connection.
 
-ghost use Rattle.std.specs.Prelude.{◌≡◌, ℕ, true, false, List, [], Some, Bool};
+ghost use Rattle.std.specs.Prelude.{◌≡◌, ℕ, true, false, List, [], Some};
 ghost use Rattle.sci_telegram.specs.declared.message.Side.{Side};
 ghost use Rattle.rasta_core.specs.State.{is_open};
 ghost use Rattle.rasta_core.specs.Clock.{settled};
@@ -17,20 +17,19 @@ ghost use Rattle.signal_ctl.specs.Signal.{SignalState, signal_behaviour};
 ghost use Rattle.point_ctl.specs.Controlled.{point_behaviour};
 ghost use Rattle.point_ctl.specs.Drive.{PointState, drives};
 ghost use Rattle.point_ctl.specs.declared.progress.Progress.TheVariants.{Answered};
-ghost use Rattle.object_host_laws.specs.Point.{GivesStanding, IsFound, IsPointStep, IsReported, found_by, is_moving, link_found};
+ghost use Rattle.object_host_laws.specs.Point.{GivesStanding, IsFound, IsPointStep, IsReported, found_by, is_moving};
 ghost use Rattle.object_host_laws.specs.Signal.{IsTold, aspect_due};
 
 use crate::step_takes_and_gives;
-use object_host::{step_is_told_to_the_object, steps_keep_a_host, who_is_behind_closes_first};
+use object_host::{step_is_told_to_the_object, steps_keep_a_host};
 use point_ctl::Point;
 use signal_ctl::{Signal, shows_the_last_aspect_taken};
 
 /// A signal in its host shows an aspect other than stop exactly where this is the last aspect that its host acted on in the
-/// connection that it is in, and the controller's clock is below the moment from which the host has it be restrictive: the link's
-/// `alive_until`, or where trains are kept apart what it is caught up until, if that is earlier (*shown*). What that stands on holds at the
+/// connection that it is in, and the controller's clock is below `alive_until` (*shown*). What that stands on holds at the
 /// beginning and after every event of two ends of which the host's is settled at its clock (*starts*, *kept*).
 pub fn signal_shows_what_was_told()
-    ensures starts { (names : Names) (start : Start) (own_name peer_name : List ℕ) (signal : SignalState) (version : ℕ) (is_strict : Bool) → IsTold (begun signal_behaviour names start own_name peer_name signal version is_strict) }
+    ensures starts { (names : Names) (start : Start) (own_name peer_name : List ℕ) (signal : SignalState) (version : ℕ) → IsTold (begun signal_behaviour names start own_name peer_name signal version) }
     ensures kept { (event : Event SignalState) (world : World SignalState) → settled (reading_of world.ends.server.clock) world.ends.server.link ≡ world.ends.server.link
         → IsTold world → IsTold (happened signal_behaviour event world) }
     ensures shown { (world : World SignalState) → IsTold world → aspect_shown world.object.lamp (reading_of world.ends.server.clock) ≡ aspect_due world }
@@ -50,20 +49,16 @@ pub fn point_makes_a_step()
 }
 
 /// A step finds a point as its events have left it: in a connection, as one that has reported there what it was told
-/// (*inside*); out of any, as one that has reported nothing and has answered every move (*outside*, *undriven*). A connection that
-/// isn't caught up any more is over by then; where trains aren't kept apart, the link is found as it was (*same*).
+/// (*inside*); out of any, as one that has reported nothing and has answered every move (*outside*, *undriven*).
 pub fn steps_find_what_was_reported()
     ensures inside { (world : World PointState) → settled (reading_of world.ends.server.clock) world.ends.server.link ≡ world.ends.server.link → IsReported world
-        → is_open (link_found (reading_of world.ends.server.clock) (host_of world)).phase ≡ true → IsFound (reading_of world.ends.server.clock) world.ends.server.given world.told (host_of world) }
+        → is_open world.ends.server.link.phase ≡ true → IsFound (reading_of world.ends.server.clock) world.ends.server.given world.told (host_of world) }
     ensures outside { (world : World PointState) → settled (reading_of world.ends.server.clock) world.ends.server.link ≡ world.ends.server.link → IsReported world
-        → is_open (link_found (reading_of world.ends.server.clock) (host_of world)).phase ≡ false → IsFound (reading_of world.ends.server.clock) [] [] (host_of world) }
+        → is_open world.ends.server.link.phase ≡ false → IsFound (reading_of world.ends.server.clock) [] [] (host_of world) }
     ensures undriven { (world : World PointState) → settled (reading_of world.ends.server.clock) world.ends.server.link ≡ world.ends.server.link → IsReported world
-        → is_open (link_found (reading_of world.ends.server.clock) (host_of world)).phase ≡ false → (found_by (reading_of world.ends.server.clock) (host_of world)).progress ≡ Answered }
-    ensures same { (world : World PointState) → settled (reading_of world.ends.server.clock) world.ends.server.link ≡ world.ends.server.link
-        → world.is_strict ≡ false → link_found (reading_of world.ends.server.clock) (host_of world) ≡ world.ends.server.link }
+        → is_open world.ends.server.link.phase ≡ false → (found_by (reading_of world.ends.server.clock) (host_of world)).progress ≡ Answered }
 {
     point_makes_a_step();
-    who_is_behind_closes_first::<Point>();
 }
 
 /// What a point in its host has reported in the connection that it is in: answers of the version, what the initialisation
@@ -71,7 +66,7 @@ pub fn steps_find_what_was_reported()
 /// gives are reports, and a position that they tell is where the point stands then (*standing*). It is driven only in a
 /// connection, for the move in progress (*driven*).
 pub fn point_reports_its_moves()
-    ensures starts { (names : Names) (start : Start) (own_name peer_name : List ℕ) (point : PointState) (version : ℕ) (is_strict : Bool) → IsReported (begun point_behaviour names start own_name peer_name point version is_strict) }
+    ensures starts { (names : Names) (start : Start) (own_name peer_name : List ℕ) (point : PointState) (version : ℕ) → IsReported (begun point_behaviour names start own_name peer_name point version) }
     ensures kept { (event : Event PointState) (world : World PointState) → settled (reading_of world.ends.server.clock) world.ends.server.link ≡ world.ends.server.link
         → IsReported world → IsReported (happened point_behaviour event world) }
     ensures standing { (now : ℕ) (input : Input) (host : HostState PointState) → GivesStanding (host_step point_behaviour now input host)
@@ -82,5 +77,4 @@ pub fn point_reports_its_moves()
     steps_keep_a_host::<Point>();
     step_takes_and_gives::<Point>();
     point_makes_a_step();
-    who_is_behind_closes_first::<Point>();
 }

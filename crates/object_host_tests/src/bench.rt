@@ -121,7 +121,7 @@ fn hosted<C: Observed>(rt: &impl Abort, alloc: Global, object: C, version: u8) -
         first_sequence_number: 0,
         now: MADE_AT,
     };
-    let made = Hosted::new(alloc, parties, start, object, version, false);
+    let made = Hosted::new(alloc, parties, start, object, version);
     made.expect(rt, "there is memory")
 }
 

@@ -25,7 +25,7 @@ fn started(rt: &impl Abort, alloc: Global) -> Embedded<Signal> {
         first_sequence_number: 7,
         now: 1000,
     };
-    Embedded::new(alloc, parties, start, Signal::new(), 2, false).expect(rt, "there is memory")
+    Embedded::new(alloc, parties, start, Signal::new(), 2).expect(rt, "there is memory")
 }
 
 /// What a loop calls.

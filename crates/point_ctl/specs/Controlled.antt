@@ -1,5 +1,5 @@
 -- A point as the object of a host.
-use Rattle.std.specs.Prelude.{false, is_some, is_none}
+use Rattle.std.specs.Prelude.{is_some, is_none}
 use Rattle.sci_telegram.specs.declared.message.Protocol.TheVariants as protocols
 use Rattle.object_host.specs.Behaviour.{Behaviour}
 use Rattle.point_ctl.specs.Drive.{PointState, move_taken, taking, ticking, sensing, keeping, owing, paying, losing, status_at, move_in, drives}
@@ -16,7 +16,6 @@ point_behaviour = record {
   until = λ point. point.until;
   owed = owing;
   after_paid = paying;
-  closes_when_full = false;
   status = status_at;
   after_loss = losing;
   is_restrictive = λ now point. is_none (drives now point);

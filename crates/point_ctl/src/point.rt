@@ -154,10 +154,6 @@ impl Controller for Point {
         self.progress = self.progress.answered();
     }
 
-    fn closes_when_full(&self) -> bool {
-        false
-    }
-
     fn status(&self, place: usize) -> Option<Report> {
         (place == 0).then(|| self.position_report())
     }

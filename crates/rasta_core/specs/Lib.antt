@@ -13,8 +13,6 @@ pub mod EachLink
 -- Many links over one network.
 pub mod Links
 pub mod Nodes
--- Until when an end is caught up.
-pub mod CaughtUp
 -- A worked list of events.
 pub mod Worked
 -- What crates above need of two ends and their network.

@@ -3,14 +3,12 @@
 //! all of it, and crates above name this one alone.
 #![tactic(auto)]
 
-mod caught_up;
 mod connection_order;
 mod many_links;
 mod one_link;
 mod true_clocks;
 mod true_time;
 
-pub use caught_up::caught_up_until;
 pub use connection_order::{
     calls_carry_what_they_accept, calls_keep_order, client_alone, connection_begins,
     hearing_keeps_order, partner_stays, parts_are_safe,

@@ -1,4 +1,3 @@
 pub mod Lists
 pub mod Looks
 pub mod Steps
-pub mod ClearLooks

@@ -1,3 +1,2 @@
 pub mod Passage
 pub mod Approach
-pub mod Reports

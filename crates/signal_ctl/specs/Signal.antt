@@ -47,7 +47,6 @@ signal_behaviour = record {
   until = λ signal. signal.lamp.until;
   owed = λ signal. if signal.owes then Some (indicated_report signal) else None;
   after_paid = λ signal. record signal { owes = false };
-  closes_when_full = false;
   status = λ place signal. if place == 0 then Some (indicated_report signal) else None;
   after_loss = λ signal. record { lamp = record signal.lamp { indicated = Stop }; owes = false };
   is_restrictive = λ now signal. is_stop (aspect_shown signal.lamp now);

@@ -112,10 +112,6 @@ impl Controller for Signal {
         self.owes = false;
     }
 
-    fn closes_when_full(&self) -> bool {
-        false
-    }
-
     fn status(&self, place: usize) -> Option<Report> {
         if place == 0 {
             Some(self.report())

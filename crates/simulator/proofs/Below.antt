@@ -1,5 +1,5 @@
 -- Definitions of the layers below that proofs here unfold.
-unfoldable pub use Rattle.simulator_spec.specs.object_host.Step.{beating, given, going_on, host_step}
+unfoldable pub use Rattle.simulator_spec.specs.object_host.Step.{beating, given, host_step}
 unfoldable pub use Rattle.simulator_field.specs.Field.{world_of}
 unfoldable pub use Rattle.simulator_spec.specs.First.{first_world, world_at}
 unfoldable pub use Rattle.simulator_spec.specs.Happens.{answered, detector_stepped, happens, interlocking_stepped, passed, point_stepped, reply_to, signal_stepped, stepped_at}

@@ -5,7 +5,7 @@ use Rattle.ixl_state.specs.ixl_spec.Step as ixl
 use Rattle.ixl_state.specs.ixl_spec.Table.{Table}
 use Rattle.ixl_state.specs.ixl_table.Table.{SitedTable}
 use Rattle.simulator_spec.specs.object_host.Behaviour.{Behaviour}
-use Rattle.simulator_spec.specs.object_host.Step.{beating, given, going_on, host_step}
+use Rattle.simulator_spec.specs.object_host.Step.{beating, given, host_step}
 use Rattle.simulator_spec.specs.object_host.declared.input.Input.{Input}
 use Rattle.simulator_spec.specs.object_host.declared.input.Input.TheVariants as inputs
 use Rattle.ixl_state.specs.rasta_core.Links.{OnLink}
@@ -77,7 +77,7 @@ station_goes input old station network answer whole stepped = record {
 
 same_coming : {Object : Type 0} (does : Behaviour Object) (bytes : List ℕ) (pointer : ℕ × ℕ) (connection time link place : ℕ) (found : Option (ClockedControllerState Object)) (all : Stepped Object)
     → stepped_at does (inputs.Datagram (record { ref_ptr = pointer; now = bytes })) connection time link place found all ≡ stepped_at does (coming bytes) connection time link place found all
-unfolding stepped_at host_step going_on given beating
+unfolding stepped_at host_step given beating
 same_coming does bytes pointer connection time link place None all = refl
 same_coming does bytes pointer connection time link place (Some server) all = refl
 

@@ -39,14 +39,7 @@ fn hosted<C: Controller>(
         peer_name: station.name,
         key: key_of(layout),
     };
-    Hosted::new(
-        alloc,
-        parties,
-        start,
-        object,
-        table.version(),
-        station.trains,
-    )
+    Hosted::new(alloc, parties, start, object, table.version())
 }
 
 /// A signal that was told nothing yet, with its clock in milliseconds and the number of its first PDU.

@@ -18,7 +18,7 @@ use Rattle.simulator_spec.specs.rasta_core.reason.Reason.TheVariants as reason
 use Rattle.simulator_spec.specs.ixl_client.Client.{ClientState, PeerState, is_outside}
 use Rattle.simulator_spec.specs.ixl_client.Meaning.{meaning, meaning_of, initial_meaning, is_for_client, is_in_turn, is_in_version, is_match, place_of, report_meaning, state_in}
 use Rattle.simulator_spec.specs.ixl_client.ClientSoFar.{Closes, LinkCall, Opens, ClientSoFar, Receives, Sends, Ticks, calling}
-use Rattle.simulator_spec.specs.ixl_client.Step.{acted_on, acting, acting_all, at_stage, closing_behind, commanding, meaning_of_item, ending, fallen, following, hearing, is_behind, is_refused_by_window, message_of, posting, rising, saying, stage_after_command, stage_after_report, telegram_to, ticking, watched}
+use Rattle.simulator_spec.specs.ixl_client.Step.{acted_on, acting, acting_all, at_stage, commanding, meaning_of_item, ending, fallen, following, hearing, is_refused_by_window, message_of, posting, rising, saying, stage_after_command, stage_after_report, telegram_to, ticking}
 use Rattle.simulator_spec.specs.ixl_client.declared.command.Command.{Command}
 use Rattle.simulator_spec.specs.ixl_client.declared.command.Command.TheVariants as commands
 use Rattle.simulator_spec.specs.ixl_client.declared.indication.Indication.{Indication}
@@ -150,14 +150,14 @@ module _ (written : TelegramsAreItems) (peer : PeerState) (is_peer : IsPeer peer
   acting_all_says now (item ∷ others) part is = by_test SaysItems (is_open part.client.link.phase) (acting_all now others (acting now item part)) part
       (λ e. acting_all_says now others (acting now item part) (acting_says now item part is)) (λ e. is)
 
-  ending_says : (now : ℕ) (part : ClientSoFar) → SaysItems part → SaysItems (ending now part)
+  ending_says : (part : ClientSoFar) → SaysItems part → SaysItems (ending part)
   unfolding fallen
-  ending_says now part is = by_test (λ (c : ClientState). SaysItems (record part { client = watched now c })) (is_up part.client.link.phase) part.client (record part.client { stage = stage.Outside })
+  ending_says part is = by_test (λ (c : ClientState). SaysItems (record part { client = c })) (is_up part.client.link.phase) part.client (record part.client { stage = stage.Outside })
       (λ e. record { items = is.items; same = is.same }) (λ e. record { items = is.items; same = is.same })
 
   pub hearing_says : (now : ℕ) (bytes : List ℕ) (part : ClientSoFar) → SaysItems part → SaysItems (hearing now bytes part)
   unfolding hearing
-  hearing_says now bytes part is = ending_says now _ (acting_all_says now (receiving now bytes part.client.link).items (rising now (calling now (Receives bytes) part))
+  hearing_says now bytes part is = ending_says _ (acting_all_says now (receiving now bytes part.client.link).items (rising now (calling now (Receives bytes) part))
       (rising_says now (calling now (Receives bytes) part) (called_says now (Receives bytes) part tt is)))
 
   command_message : (command : Command) → IsMessage (message_of command)
@@ -166,12 +166,8 @@ module _ (written : TelegramsAreItems) (peer : PeerState) (is_peer : IsPeer peer
 
   pub commanding_says : (now : ℕ) (command : Command) (part : ClientSoFar) → SaysItems part → SaysItems (commanding now command part)
   unfolding commanding
-  commanding_says now command part is = ending_says now _ (staged (stage_after_command command part.client.stage) (posting now (message_of command) part) (posting_says now (message_of command) part (command_message command) is))
+  commanding_says now command part is = ending_says _ (staged (stage_after_command command part.client.stage) (posting now (message_of command) part) (posting_says now (message_of command) part (command_message command) is))
 
   pub ticking_says : (now : ℕ) (part : ClientSoFar) → SaysItems part → SaysItems (ticking now part)
   unfolding ticking
-  ticking_says now part is = ending_says now _ (called_says now Opens (calling now Ticks part) tt (called_says now Ticks part tt is))
-
-  pub closing_behind_says : (now : ℕ) (part : ClientSoFar) → SaysItems part → SaysItems (closing_behind now part)
-  unfolding closing_behind
-  closing_behind_says now part is = by_test SaysItems (is_behind now part.client) _ part (λ e. ending_says now _ (called_says now (Closes reason.User) part tt is)) (λ e. is)
+  ticking_says now part is = ending_says _ (called_says now Opens (calling now Ticks part) tt (called_says now Ticks part tt is))

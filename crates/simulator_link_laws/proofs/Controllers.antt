@@ -20,7 +20,6 @@ use Rattle.simulator_spec.specs.rasta_core.Links.{AreLinks, CallsOn, IsAmongAll,
 use Rattle.simulator_spec.specs.rasta_core.Names.{Names}
 use Rattle.simulator_spec.specs.rasta_core.Outbox.{spellings}
 use Rattle.simulator_spec.specs.rasta_core.Run.{Ends, called}
-use Rattle.simulator_spec.specs.rasta_core.State.{LinkState}
 use Rattle.simulator_spec.specs.rasta_core.Steps.{calls_at}
 use Rattle.simulator_spec.specs.rasta_core.identity.Role.{Role}
 use Rattle.simulator_spec.specs.rasta_core.identity.Role.TheVariants as role
@@ -126,23 +125,18 @@ abbrev pub MayCome : Names → Input → ℕ → Links → Type 0
 MayCome names (inputs.Datagram bytes) connection before = MayCallOn names (calls.Receives bytes.now connection) before
 MayCome names _ connection before = Unit {0}
 
-step_may : (names : Names) (connection now : ℕ) (link : LinkState) (input : Input) (list : List LinkCall) (before : Links) → AreCallsFor now link input list → AreItems list → MayCome names input connection before
+step_may : (names : Names) (connection : ℕ) (input : Input) (list : List LinkCall) (before : Links) → AreCallsFor input list → AreItems list → MayCome names input connection before
     → Each (λ call. MayCallOn names call before) (map (as_call connection) list)
-step_may names connection now link inputs.Tick list before own items may = own_may names connection list before own items
-step_may names connection now link (inputs.Datagram bytes) list before first items may =
-    elim first.1 [
-      | inl is ↦ subst MayEach (sym is) (may, own_may names connection first.0 before first.2 (subst AreItems is items))
-      | inr both ↦ subst MayEach (sym both.0) (tt, (may, own_may names connection first.0 before first.2 (subst AreItems both.0 items)))
-    ]
-  where
-    MayEach : List LinkCall → Type 0
-    MayEach l = Each (λ call. MayCallOn names call before) (map (as_call connection) l)
-step_may names connection now link (inputs.Sense sense) list before own items may = own_may names connection list before own items
+step_may names connection inputs.Tick list before own items may = own_may names connection list before own items
+step_may names connection (inputs.Datagram bytes) list before first items may =
+    subst (λ (l : List LinkCall). Each (λ call. MayCallOn names call before) (map (as_call connection) l)) (sym first.1)
+    (may, own_may names connection first.0 before first.2 (subst AreItems first.1 items))
+step_may names connection (inputs.Sense sense) list before own items may = own_may names connection list before own items
 
 -- ---- the step
 
 module _ {Object : Type 0} (does : Behaviour Object)
-    (calls_for : (now : ℕ) (input : Input) (host : HostState Object) → AreCallsFor now host.link input (host_step does now input host).calls)
+    (calls_for : (now : ℕ) (input : Input) (host : HostState Object) → AreCallsFor input (host_step does now input host).calls)
     (made_of : (now : ℕ) (input : Input) (host : HostState Object) → IsMadeOf now (settled now host.link) (host_step does now input host))
     (laws : LinkLaws) (calling : CallLaws) (serving : ServerLaws)
     (site : Site) (are_links : AreLinks (links site) (names_at site)) (world : WorldState) (before : Links) (timely : AreTimely (links site) (names_at site) before) (are : AreLinksOf site world before) where
@@ -188,7 +182,7 @@ module _ {Object : Type 0} (does : Behaviour Object)
       below = below_links site link id at
 
       each : Each (λ call. MayCallOn (names_at site link) call before) (map (as_call connection) (step_of does input server).calls)
-      each = step_may (names_at site link) connection _ _ input (step_of does input server).calls before (calls_for _ input server.host) items may
+      each = step_may (names_at site link) connection input (step_of does input server).calls before (calls_for _ input server.host) items may
 
       ends_run : MayRun (names_at site link) (calls_at role.Server (map (as_call connection) (step_of does input server).calls)) (seen link before)
       ends_run = calling.all (names_at site link) role.Server (map (as_call connection) (step_of does input server).calls) (seen link before)

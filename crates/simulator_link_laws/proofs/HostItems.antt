@@ -14,15 +14,12 @@ use Rattle.simulator_spec.specs.rasta_pdu.Items.{IsItem}
 use Rattle.simulator_spec.specs.rasta_core.Calls.{answer_to_send, receiving}
 use Rattle.simulator_spec.specs.rasta_core.Clock.{settled}
 use Rattle.simulator_spec.specs.rasta_core.State.{is_open}
-use Rattle.simulator_spec.specs.rasta_core.fault.SendFault.{SendFault}
-use Rattle.simulator_spec.specs.rasta_core.reason.Reason.{Reason}
-use Rattle.simulator_spec.specs.rasta_core.reason.Reason.TheVariants as reason
 use Rattle.simulator_spec.specs.object_host.Behaviour.{Behaviour}
 use Rattle.simulator_spec.specs.object_host.Meaning as courses
 use Rattle.simulator_spec.specs.object_host.Meaning.{meaning}
-use Rattle.simulator_spec.specs.object_host.Host.{HostState, LinkCall, HostSoFar, Ticks, Closes, Sends, Receives, fallen, is_completed, is_outside, keeping, risen, said, sender_of, silent, telegram_of, then_do, watched}
+use Rattle.simulator_spec.specs.object_host.Host.{HostState, LinkCall, HostSoFar, Ticks, Closes, Sends, Receives, fallen, is_completed, is_outside, keeping, risen, said, sender_of, silent, telegram_of, then_do}
 use Rattle.simulator_spec.specs.object_host.Made.{AreItems}
-use Rattle.simulator_spec.specs.object_host.Step.{acting, acting_all, after_refusal, answering, beating, beginning, closes_when_refused, closing, closing_behind, commanding, following, found, given, goes_on, going_on, hearing, host_step, initial_status, initialising, is_admitted, is_behind, most_objects, most_owed, paid, paying, paying_first, posting, posting_all, received, report_then, telling_status, violating}
+use Rattle.simulator_spec.specs.object_host.Step.{acting, acting_all, answering, beating, beginning, commanding, following, given, goes_on, hearing, host_step, initial_status, initialising, is_admitted, most_objects, most_owed, paid, paying, paying_first, posting, posting_all, received, report_then, telling_status, violating}
 use Rattle.simulator_spec.specs.object_host.declared.input.Input.{Input}
 use Rattle.simulator_spec.specs.object_host.declared.input.Input.TheVariants as inputs
 use Rattle.simulator_spec.specs.object_host.declared.report.Report.{Report}
@@ -102,12 +99,9 @@ module _ {Object : Type 0} (does : Behaviour Object) (Good : Object → Type 0) 
   posting_all_says now [] host told sound = silent_says host sound
   posting_all_says now (first ∷ others) host told sound = says_then (posting now first host) (posting_all now others) (posting_says now first host told.0 sound) (λ next is. posting_all_says now others next told.1 is)
 
-  closing_says : (now : ℕ) (why : Reason) (host : HostState Object) → IsSound host → SaysItems (closing now why host)
-  closing_says now why host sound = record { items = tt; sound = record { named = record { own_name = sound.named.own_name; peer_name = sound.named.peer_name; version = sound.named.version }; good = sound.good } }
-
   violating_says : (now : ℕ) (host : HostState Object) → IsSound host → SaysItems (violating now host)
   unfolding violating
-  violating_says now host sound = closing_says now reason.State host sound
+  violating_says now host sound = record { items = tt; sound = record { named = record { own_name = sound.named.own_name; peer_name = sound.named.peer_name; version = sound.named.version }; good = sound.good } }
 
   -- what is left of a part beside its stage
   same_says : (part : HostSoFar Object) (stage : Stage) → SaysItems part → SaysItems (record part { host = record part.host { stage = stage } })
@@ -209,17 +203,12 @@ module _ {Object : Type 0} (does : Behaviour Object) (Good : Object → Type 0) 
   paid_sound : (host : HostState Object) → IsSound host → IsSound (paid does host)
   paid_sound host sound = record { named = record { own_name = sound.named.own_name; peer_name = sound.named.peer_name; version = sound.named.version }; good = tells.pays host.object sound.good }
 
-  refusal_says : (now : ℕ) (answer : Result Unit SendFault) (host : HostState Object) → IsSound host → SaysItems (after_refusal does now answer host)
-  unfolding after_refusal
-  refusal_says now answer host sound = by_test SaysItems (closes_when_refused does answer host) _ _ (λ e. closing_says now reason.Window host sound) (λ e. silent_says host sound)
-
   paying_first_says : (now : ℕ) (first : Option Report) (host : HostState Object) → IsToldWhere first → IsSound host → SaysItems (paying_first does now first host)
   paying_first_says now None host told sound = silent_says host sound
   paying_first_says now (Some report) host told sound =
       let sent = posting_says now report host told sound
       in by_test SaysItems (not (is_completed host.stage)) _ _ (λ e. silent_says (paid does host) (paid_sound host sound)) (λ e.
-      by_test SaysItems (is_ok (answer_to_send now host.link)) _ _ (λ f. record { items = sent.items; sound = paid_sound (posting now report host).host sent.sound })
-      (λ f. says_then (posting now report host) (after_refusal does now (answer_to_send now host.link)) sent (λ next is. refusal_says now (answer_to_send now host.link) next is)))
+      by_test SaysItems (is_ok (answer_to_send now host.link)) _ _ (λ f. record { items = sent.items; sound = paid_sound (posting now report host).host sent.sound }) (λ f. sent))
 
   paying_says : (now more : ℕ) (host : HostState Object) → IsSound host → SaysItems (paying does now more host)
   unfolding paying
@@ -239,15 +228,6 @@ module _ {Object : Type 0} (does : Behaviour Object) (Good : Object → Type 0) 
   beginning_sound now host sound =
       let clocked = fallen_sound (record host { link = settled now host.link }) (record { named = record { own_name = sound.named.own_name; peer_name = sound.named.peer_name; version = sound.named.version }; good = sound.good })
       in record { named = record { own_name = clocked.named.own_name; peer_name = clocked.named.peer_name; version = clocked.named.version }; good = tells.ticks now _ clocked.good }
-
-  watched_sound : (now : ℕ) (host : HostState Object) → IsSound host → IsSound (watched now host)
-  watched_sound now host sound = record { named = record { own_name = sound.named.own_name; peer_name = sound.named.peer_name; version = sound.named.version }; good = sound.good }
-
-  closing_behind_says : (now : ℕ) (host : HostState Object) → IsSound host → SaysItems (closing_behind does now host)
-  unfolding closing_behind
-  closing_behind_says now host sound =
-      let closed = closing_says now reason.User host sound
-      in by_test SaysItems (is_behind now host) _ _ (λ e. record { items = tt; sound = fallen_sound (closing now reason.User host).host closed.sound }) (λ e. silent_says host sound)
 
   given_says : (now : ℕ) (input : Input) (host : HostState Object) → IsSound host → SaysItems (given does now input host)
   unfolding given
@@ -270,18 +250,12 @@ module _ {Object : Type 0} (does : Behaviour Object) (Good : Object → Type 0) 
     pub items : AreItems part.calls
     pub sound : IsSound part.host
 
-  going_on_says : (now : ℕ) (input : Input) (host : HostState Object) → IsSound host → SaysItems (going_on does now input host)
-  unfolding going_on
-  going_on_says now input host sound =
-      let heard = given does now input host
-      in let told = then_do heard (paying does now most_owed)
-      in let done = says_then told (beating now input)
-      (says_then heard (paying does now most_owed) (given_says now input host sound) (λ next is. paying_says now most_owed next is))
-      (λ next is. beating_says now input next is)
-      in record { items = done.items; sound = keeping_sound _ (watched_sound now _ (fallen_sound _ done.sound)) }
-
   pub step_is_sound : (now : ℕ) (input : Input) (host : HostState Object) → IsSound host → StepIsSound (host_step does now input host)
   unfolding host_step
   step_is_sound now input host sound =
-      let whole = says_then (found does now host) (going_on does now input) (closing_behind_says now (beginning does now host) (beginning_sound now host sound)) (λ next is. going_on_says now input next is)
-      in record { items = whole.items; sound = whole.sound }
+      let heard = given does now input (beginning does now host)
+      in let told = then_do heard (paying does now most_owed)
+      in let done = says_then told (beating now input)
+      (says_then heard (paying does now most_owed) (given_says now input (beginning does now host) (beginning_sound now host sound)) (λ next is. paying_says now most_owed next is))
+      (λ next is. beating_says now input next is)
+      in record { items = done.items; sound = keeping_sound _ (fallen_sound _ done.sound) }

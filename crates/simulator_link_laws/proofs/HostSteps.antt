@@ -1,5 +1,5 @@
 -- A step of a controller, as calls at its end of the link.
-use Rattle.std.proofs.Common.{◌≡◌, inl, inr, ℕ, ◌+◌, Bool, true, false, ◌&&◌, ◌||◌, not, List, [], ◌∷◌, ◌++◌, length, map, Option, Some, None, refl, sym, ap, subst, ◌∙◌, if◌then◌else◌}
+use Rattle.std.proofs.Common.{◌≡◌, ℕ, ◌+◌, Bool, true, false, ◌&&◌, ◌||◌, not, List, [], ◌∷◌, ◌++◌, length, map, Option, Some, None, refl, sym, ap, subst, ◌∙◌, if◌then◌else◌}
 use Rattle.std.specs.Prelude.{is_some}
 use Rattle.std.proofs.lemmas.Bool.{true≢false}
 use Rattle.simulator_spec.specs.object_host.Behaviour.{Behaviour}
@@ -18,18 +18,16 @@ use Rattle.simulator_spec.specs.rasta_core.Invariant.{Timely}
 use Rattle.simulator_spec.specs.rasta_core.Names.{AreNames, Names}
 use Rattle.simulator_spec.specs.rasta_core.Outbox.{spellings}
 use Rattle.simulator_spec.specs.rasta_core.Run.{Ends, called}
-use Rattle.simulator_spec.specs.rasta_core.State.{LinkState, is_open, is_up}
+use Rattle.simulator_spec.specs.rasta_core.State.{LinkState, is_open}
 use Rattle.simulator_spec.specs.rasta_core.Steps.{EnterNone, all_made, calls_at, enters_by, made_by}
 use Rattle.simulator_spec.specs.rasta_core.identity.Identity.{Identity}
 use Rattle.simulator_spec.specs.rasta_core.identity.Role.TheVariants as role
-use Rattle.simulator_spec.specs.rasta_core.reason.Reason.TheVariants as reason
 use Rattle.simulator_spec.specs.rasta_pdu.declared.key.Key.{Key}
 use Rattle.simulator_spec.specs.rasta_pdu.declared.pdu.Pdu.{Pdu}
 use Rattle.simulator_move_laws.specs.Flows.{ServerIsAfter}
 use Rattle.simulator_spec.specs.Links.{ServerEnd, end_of_server}
 use Rattle.simulator_spec.specs.Controllers.{controller_after, has_entered, is_inside_at, is_some_sent, step_of}
 use Rattle.simulator_spec.specs.State.{ClockedControllerState}
-use Rattle.simulator_link_laws.proofs.QuietEnds.{untaken_where_closed, up_open}
 use Rattle.simulator_link_laws.proofs.ServerAnswers.{is_made, silent_outside, some_first, taken_is_answered}
 use Rattle.simulator_link_laws.proofs.Laws.{CallLaws, LinkLaws, ServerLaws}
 use Rattle.simulator_link_laws.proofs.Places.{IsKept}
@@ -95,10 +93,6 @@ enter_none_then : (now : ℕ) (call : Call) (others : List Call) (link : LinkSta
 unfolding EnterNone
 enter_none_then now call others link first rest = (first, rest)
 
-no_both : (a b : Bool) → b ≡ false → a && b ≡ false
-no_both true b e = e
-no_both false b e = refl
-
 called_link : (call : Call) (ends : Ends) → (called role.Server call ends).server.link ≡ (made_by (reading_of ends.server.clock) call ends.server.link).link
 unfolding called ends_calls.end_after
 called_link call ends = (is_made call ends.moment ends.server).link
@@ -111,7 +105,7 @@ pub record IsStepped (names : Names) (time : ℕ) (key : Key) (new : ServerEnd) 
   pub sent : after.sent ≡ old.sent ++ handed_out old.time role.Server new.connection (spellings key pdus)
 
 module _ {Object : Type 0} (does : Behaviour Object)
-    (calls_for : (now : ℕ) (input : Input) (host : HostState Object) → AreCallsFor now host.link input (host_step does now input host).calls)
+    (calls_for : (now : ℕ) (input : Input) (host : HostState Object) → AreCallsFor input (host_step does now input host).calls)
     (made_of : (now : ℕ) (input : Input) (host : HostState Object) → IsMadeOf now (settled now host.link) (host_step does now input host))
     (laws : LinkLaws) (calling : CallLaws) (serving : ServerLaws)
     (names : Names) (are : AreNames names) (connection moment : ℕ) (server : ClockedControllerState Object) (ends : Ends) (timely : Timely names ends)
@@ -185,7 +179,10 @@ module _ {Object : Type 0} (does : Behaviour Object)
     answered outside taken = some_pdus ∙ some_first _ _ (taken_is_answered clock_reads bytes ends.server.link (inside_is ∙ outside) taken)
 
     enters_nothing : is_taken_here ≡ false → enters_by clock_reads first ends.server.link ≡ false
-    enters_nothing none = enters_where_taken connection bytes clock_reads ends.server.link ∙ no_both (not (is_open ends.server.link.phase)) is_taken_here none
+    enters_nothing none = enters_where_taken connection bytes clock_reads ends.server.link ∙ no_both (not (is_open ends.server.link.phase)) is_taken_here none where
+      no_both : (a b : Bool) → b ≡ false → a && b ≡ false
+      no_both true b e = e
+      no_both false b e = refl
 
     nothing : is_inside_at server.clock server.host.link ≡ false → is_taken_here ≡ false → is_some_sent (done input).pdus ≡ false
     nothing outside none = ap is_some_sent (sym (pdus_are input) ∙ ap (λ (c : List Call). (all_made clock_reads c ends.server.link).pdus) these
@@ -219,30 +216,9 @@ module _ {Object : Type 0} (does : Behaviour Object)
         stays_here outside silent true taken = absurd (true≢false (sym (answered outside taken) ∙ silent))
         stays_here outside silent false taken = by_verdict false false (inside_is ∙ outside) taken
 
-  -- of one that closes before it receives, since it isn't caught up any more
-  closing_enters : (input : Input) (bytes : List ℕ) (others : List LinkCall) → AreOwn others → (done input).calls ≡ Closes reason.User ∷ Receives bytes ∷ others → is_up start.phase ≡ true →
-      MayRun names (calls_at role.Server (calls input)) ends → Enters input
-  unfolding EnterNone enters_by made_by
-  closing_enters input bytes others own calls_are up may = (
-    None,
-    serving.none names (calls input) ends are timely may none,
-    entered_is connection (is_inside_at server.clock server.host.link) (is_some_sent (done input).pdus) None (λ e. refl)
-        (λ outside some. absurd (true≢false (sym (up_open start.phase up) ∙ outside))) (λ outside silent. refl),
-  )
-    where
-      is_up_here : is_up (settled clock_reads ends.server.link).phase ≡ true
-      is_up_here = ap (λ (l : LinkState). is_up l.phase) (laws.settles names ends role.Server timely ∙ is.link_is) ∙ up
-
-      none : EnterNone clock_reads (calls input) ends.server.link
-      none = subst (λ (c : List Call). EnterNone clock_reads c ends.server.link) (sym (ap (map (as_call connection)) calls_are))
-          (refl, (no_both _ _ (untaken_where_closed clock_reads bytes ends.server.link is_up_here), own_enter_none clock_reads connection others _ own))
-
-  enters : (input : Input) → AreCallsFor now server.host.link input (done input).calls → MayRun names (calls_at role.Server (calls input)) ends → Enters input
+  enters : (input : Input) → AreCallsFor input (done input).calls → MayRun names (calls_at role.Server (calls input)) ends → Enters input
   enters inputs.Tick own may = own_enters inputs.Tick own may
-  enters (inputs.Datagram bytes) first may = elim first.1 [
-    | inl is ↦ first_enters (inputs.Datagram bytes) bytes.now first.0 first.2 is may
-    | inr both ↦ closing_enters (inputs.Datagram bytes) bytes.now first.0 first.2 both.0 both.1 may
-  ]
+  enters (inputs.Datagram bytes) first may = first_enters (inputs.Datagram bytes) bytes.now first.0 first.2 first.1 may
   enters (inputs.Sense sense) own may = own_enters (inputs.Sense sense) own may
 
   -- the controller's end after the step

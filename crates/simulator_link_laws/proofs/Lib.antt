@@ -7,7 +7,6 @@ pub mod Lost
 pub mod Later
 pub mod Anew
 pub mod ServerAnswers
-pub mod QuietEnds
 pub mod HostSteps
 pub mod Spelled
 pub mod HostItems

@@ -11,14 +11,14 @@ use Rattle.simulator_spec.specs.ixl_client.Client.{ClientState, is_outside}
 use Rattle.simulator_spec.specs.ixl_client.Made.{Makes, MakesAfterReceipt, MakesOwn}
 use Rattle.simulator_spec.specs.ixl_client.ClientSoFar as client
 use Rattle.simulator_spec.specs.ixl_client.ClientSoFar.{LinkCall, Receives, begun}
-use Rattle.simulator_spec.specs.ixl_client.Step.{closing_behind, commanding, hearing, ticking}
+use Rattle.simulator_spec.specs.ixl_client.Step.{commanding, hearing, ticking}
 use Rattle.simulator_spec.specs.ixl_client.declared.command.Command.{Command as ClientCommand}
 use Rattle.simulator_spec.specs.ixl_client.declared.command.Command.TheVariants as commands
 use Rattle.simulator_spec.specs.ixl_spec.Commands.{commanded_by, moved_at_once, obeyed, refusal, route_set, unmoved_for}
 use Rattle.simulator_spec.specs.ixl_spec.StepSoFar.{Node, Signal, Point, Detector, StepSoFar, along, at_route, detector_after, giving_aspect, giving_move, known_signal_after, noted, over, known_point_after, with_detector, with_known_signal, with_one, with_route, with_known_point}
 use Rattle.simulator_spec.specs.ixl_spec.Rules.{authorised, come_to, count, ended, ending_authority, freed, freed_by_cancel, freed_by_passage, freeing_by_cancel, freeing_by_passage, freeing_next, frees_cancelled, frees_next, is_move_due, is_proceed_due, is_proceeding, is_stop_due, is_withdrawn, moved, moving, moving_one, one_freed, proceeding, repeated, ruled, stopped, withdrawing, withdrawn}
 use Rattle.simulator_spec.specs.ixl_spec.State.{KnownDetectorState, IxlState, KnownSignalState, RouteState, KnownPointState, changed}
-use Rattle.simulator_spec.specs.ixl_spec.Step.{Input, Tick, Datagram, Commands, addressed, all_clocked, all_closing, stepped, detector_closing, detector_hearing, detector_ticking, given, known_signal_closing, known_signal_hearing, known_signal_ticking, looking, looking_by, looks, node_hearing, noting, occupied_heard, known_point_closing, known_point_hearing, known_point_ticking, ticked, watching}
+use Rattle.simulator_spec.specs.ixl_spec.Step.{Input, Tick, Datagram, Commands, addressed, all_clocked, stepped, detector_hearing, detector_ticking, given, known_signal_hearing, known_signal_ticking, looking, looking_by, looks, node_hearing, occupied_heard, known_point_hearing, known_point_ticking, ticked, watching}
 use Rattle.simulator_spec.specs.ixl_spec.Table.{Need, Row, Table}
 use Rattle.simulator_spec.specs.ixl_spec.View.{is_at_known_stop, is_signal_ready, was_authorised}
 use Rattle.simulator_spec.specs.ixl_spec.declared.command.Command.{Command}
@@ -31,7 +31,7 @@ use Rattle.simulator_spec.specs.rasta_pdu.declared.key.Key.{Key}
 use Rattle.simulator_spec.specs.Links.{names_at}
 use Rattle.simulator_spec.specs.Nodes.{detector_link, links, point_link}
 use Rattle.simulator_spec.specs.Interlocking.{Sending}
-use Rattle.simulator_link_laws.proofs.ClientItems.{AreSendable, SaysItems, closing_behind_says, commanding_says, hearing_says, ticking_says}
+use Rattle.simulator_link_laws.proofs.ClientItems.{AreSendable, SaysItems, commanding_says, hearing_says, ticking_says}
 use Rattle.simulator_link_laws.proofs.HostItems.{TelegramsAreItems}
 use Rattle.simulator_link_laws.proofs.Laws.{ClientLaws, LinkLaws}
 use Rattle.simulator_link_laws.proofs.Lists.{by_test, changed_to, get_left, get_map, get_right, length_map, length_set, map_set, within_some}
@@ -93,7 +93,6 @@ pub record StepLaws : Type 0 where
   pub receipt : (now : ℕ) (bytes : List ℕ) (part : client.ClientSoFar) → MakesAfterReceipt now bytes part (hearing now bytes part)
   pub command : (now : ℕ) (command : ClientCommand) (part : client.ClientSoFar) → MakesOwn now part (commanding now command part)
   pub tick : (now : ℕ) (part : client.ClientSoFar) → MakesOwn now part (ticking now part)
-  pub behind : (now : ℕ) (part : client.ClientSoFar) → MakesOwn now part (closing_behind now part)
   pub written : TelegramsAreItems
 
 module _ (laws : LinkLaws) (client_laws : ClientLaws) (site : Site) (are : AreLinks (links site) (names_at site)) (time connection now : ℕ) (before : Links) (start : Sending)
@@ -145,9 +144,6 @@ module _ (laws : LinkLaws) (client_laws : ClientLaws) (site : Site) (are : AreLi
 
   ticked_done : (link : ℕ) (old : ClientState) (outbox : _) → IsPeer old.peer → IsDone link old outbox (ticking now (begun old outbox))
   ticked_done link old outbox is_peer = own_done link old outbox _ is_peer (steps.tick now (begun old outbox)) (ticking_says steps.written old.peer is_peer now (begun old outbox) (begins old outbox is_peer))
-
-  closed_done : (link : ℕ) (old : ClientState) (outbox : _) → IsPeer old.peer → IsDone link old outbox (closing_behind now (begun old outbox))
-  closed_done link old outbox is_peer = own_done link old outbox _ is_peer (steps.behind now (begun old outbox)) (closing_behind_says steps.written old.peer is_peer now (begun old outbox) (begins old outbox is_peer))
 
   abbrev MayHear : List ℕ → Type 0
   MayHear bytes = (link : ℕ) → link < links site → MayMake (names_at site link) connection (Receives bytes) before
@@ -206,11 +202,6 @@ module _ (laws : LinkLaws) (client_laws : ClientLaws) (site : Site) (are : AreLi
   known_signal_ticks place part on = one_kept On (slice_get part.ixl.known_signals place) _ part (λ known_signal is. known_signal_kept part on place known_signal is (ticking now (begun known_signal.client part.outbox)) _ _ _
       (ticked_done place known_signal.client part.outbox (known_signal_peer part on place known_signal is))) on
 
-  known_signal_closes : (place : ℕ) (part : StepSoFar) → On part → On (known_signal_closing now place part)
-  unfolding known_signal_closing
-  known_signal_closes place part on = one_kept On (slice_get part.ixl.known_signals place) _ part (λ known_signal is. known_signal_kept part on place known_signal is (closing_behind now (begun known_signal.client part.outbox)) _ _ _
-      (closed_done place known_signal.client part.outbox (known_signal_peer part on place known_signal is))) on
-
   known_signal_hears : (bytes : List ℕ) → MayHear bytes → (place : ℕ) (part : StepSoFar) → On part → On (known_signal_hearing now bytes place part)
   unfolding known_signal_hearing
   known_signal_hears bytes may place part on = one_kept On (slice_get part.ixl.known_signals place) _ part (λ known_signal is. known_signal_kept part on place known_signal is (hearing now bytes (begun known_signal.client part.outbox)) _ _ _
@@ -260,11 +251,6 @@ module _ (laws : LinkLaws) (client_laws : ClientLaws) (site : Site) (are : AreLi
   unfolding known_point_ticking
   known_point_ticks place part on = one_kept On (slice_get part.ixl.known_points place) _ part (λ known_point is. known_point_kept part on place known_point is (ticking now (begun known_point.client part.outbox)) _ _
       (ticked_done (point_link site place) known_point.client part.outbox (known_point_peer part on place known_point is))) on
-
-  known_point_closes : (place : ℕ) (part : StepSoFar) → On part → On (known_point_closing now place part)
-  unfolding known_point_closing
-  known_point_closes place part on = one_kept On (slice_get part.ixl.known_points place) _ part (λ known_point is. known_point_kept part on place known_point is (closing_behind now (begun known_point.client part.outbox)) _ _
-      (closed_done (point_link site place) known_point.client part.outbox (known_point_peer part on place known_point is))) on
 
   known_point_hears : (bytes : List ℕ) → MayHear bytes → (place : ℕ) (part : StepSoFar) → On part → On (known_point_hearing now bytes place part)
   unfolding known_point_hearing
@@ -324,18 +310,6 @@ module _ (laws : LinkLaws) (client_laws : ClientLaws) (site : Site) (are : AreLi
   detector_ticks place part on = one_kept On (slice_get part.ixl.detectors place) _ part (λ detector is. detector_kept part on place detector is (ticking now (begun detector.client part.outbox)) _
       (ticked_done (detector_link site place) detector.client part.outbox (detector_peer part on place detector is))) on
 
-  detector_closes : (place : ℕ) (part : StepSoFar) → On part → On (detector_closing now place part)
-  unfolding detector_closing
-  detector_closes place part on = one_kept On (slice_get part.ixl.detectors place) _ part (λ detector is. detector_kept part on place detector is (closing_behind now (begun detector.client part.outbox)) _
-      (closed_done (detector_link site place) detector.client part.outbox (detector_peer part on place detector is))) on
-
-  closes : (part : StepSoFar) → On part → On (all_closing now part)
-  unfolding all_closing
-  closes part on =
-      over_kept On (detector_closing now) detector_closes (length part.ixl.detectors) _
-      (over_kept On (known_point_closing now) known_point_closes (length part.ixl.known_points) _
-      (over_kept On (known_signal_closing now) known_signal_closes (length part.ixl.known_signals) part on))
-
   detector_hears : (bytes : List ℕ) → MayHear bytes → (place : ℕ) (part : StepSoFar) → On part → On (detector_hearing now table bytes place part)
   unfolding detector_hearing
   detector_hears bytes may place part on = one_kept On (slice_get table.detectors place) _ part (λ sections has. one_kept On (slice_get part.ixl.detectors place) _ part (λ detector is.
@@ -394,10 +368,6 @@ module _ (laws : LinkLaws) (client_laws : ClientLaws) (site : Site) (are : AreLi
   watches : (number : ℕ) (part : StepSoFar) → On part → On (watching table number part)
   unfolding watching
   watches number part on = at_kept On table number _ part (λ row route. by_test On (is_proceeding route.phase || is_withdrawn route.phase) _ part (λ e. route_kept number _ part on) (λ e. on)) on
-
-  notes : (number : ℕ) (part : StepSoFar) → On part → On (noting now table number part)
-  unfolding noting
-  notes number part on = at_kept On table number _ part (λ row route. by_test On (table.is_strict && was_authorised route.phase) _ part (λ e. route_kept number _ part on) (λ e. on)) on
 
   -- ---- the input
 
@@ -465,5 +435,4 @@ module _ (laws : LinkLaws) (client_laws : ClientLaws) (site : Site) (are : AreLi
   -- a step from where the clock rules were applied
   pub step_kept : (key : Key) (input : Input) (part : StepSoFar) → MayComeIn input → On (record part { ixl = all_clocked now part.ixl }) → On (stepped now table key input part)
   unfolding stepped
-  step_kept key input part may on = ticked_kept input _ (rules_kept _ (over_kept On (noting now table) notes (count table) _
-      (over_kept On (watching table) watches (count table) _ (given_kept key input may _ (closes (record part { ixl = all_clocked now part.ixl }) on)))))
+  step_kept key input part may on = ticked_kept input _ (rules_kept _ (over_kept On (watching table) watches (count table) _ (given_kept key input may (record part { ixl = all_clocked now part.ixl }) on)))

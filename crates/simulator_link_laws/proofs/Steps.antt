@@ -35,7 +35,7 @@ use Rattle.simulator_link_laws.specs.Whole.{IsWhole}
 
 -- the laws of a host
 pub record HostLaws {Object : Type 0} (does : Behaviour Object) : Type 0 where
-  pub calls_for : (now : ℕ) (input : Input) (host : HostState Object) → AreCallsFor now host.link input (host_step does now input host).calls
+  pub calls_for : (now : ℕ) (input : Input) (host : HostState Object) → AreCallsFor input (host_step does now input host).calls
   pub made_of : (now : ℕ) (input : Input) (host : HostState Object) → IsMadeOf now (settled now host.link) (host_step does now input host)
 
 pub each_named : (sections : List Section) → ((place : ℕ) (section : Section) → slice_get sections place ≡ Some section → IsName section.name) → AreSectionsNamed sections

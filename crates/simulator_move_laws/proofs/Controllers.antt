@@ -1,5 +1,4 @@
 pub mod Lists
-pub mod Behind
 pub mod Places
 pub mod Lamps
 pub mod Turns

@@ -42,13 +42,11 @@ OpensNone (_ ∷ others) = OpensNone others
 abbrev pub hosted_on : {Object : Type 0} → Ends → HostState Object → World Object
 hosted_on ends host = record {
   ends = ends;
-  caught_up_until = host.caught_up_until;
   stage = host.stage;
   object = host.object;
   own_name = host.own_name;
   peer_name = host.peer_name;
   version = host.version;
-  is_strict = host.is_strict;
   acted = ends.server.taken;
   told = commands_of ends.server.taken;
 }

@@ -10,7 +10,7 @@ use Rattle.ixl_spec.specs.Table.{Table as Rows}
 use Rattle.ixl_spec.specs.rasta_core.Outbox.{OutboxState}
 use Rattle.ixl_spec.specs.rasta_pdu.declared.key.Key.{Key}
 use Rattle.ixl_spec.specs.State.{IxlState, KnownSignalState, KnownPointState}
-use Rattle.ixl_spec.specs.Step.{Input, all_clocked, all_closing, given as given_input, noting, watching}
+use Rattle.ixl_spec.specs.Step.{Input, all_clocked, given as given_input, watching}
 use Rattle.ixl_spec.specs.View.{is_holding}
 use Rattle.simulator_machine.specs.Chains.{MovesTo}
 use Rattle.simulator_machine.specs.Machine.{Machine}
@@ -24,11 +24,11 @@ use Rattle.simulator_move_laws.specs.Sees.{Given, IsClosedSince}
 use Rattle.simulator_move_laws.specs.Step.{PointStays, SignalStays}
 use Rattle.simulator_move_laws.specs.Totals.{KeepsAspects, KeepsMoves}
 
--- A step up to its rules: the clock, links that aren't caught up any more, the input, what routes with authority watch and note, and the six rules. On a tick what each
+-- A step up to its rules: the clock, the input, what routes with authority watch, and the six rules. On a tick what each
 -- link does by itself comes after them.
 abbrev pub until_ticked : ℕ → Rows → Key → Input → IxlState → OutboxState → StepSoFar
 until_ticked now rows key input ixl outbox =
-    ruled now rows (over (noting now rows) (count rows) (over (watching rows) (count rows) (given_input now rows key input (all_closing now (begun_with (all_clocked now ixl) outbox)))))
+    ruled now rows (over (watching rows) (count rows) (given_input now rows key input (begun_with (all_clocked now ixl) outbox)))
 
 -- from this interlocking and this machine on, at this clock and with this input
 module _ (now : ℕ) (input : Input) (table : Table) (ixl : IxlState) (given : Given) (machine : Machine) where

@@ -1,7 +1,6 @@
 //! What the link's theorem gives of a host's step.
 
 ghost use Rattle.std.specs.Prelude.{ℕ, List};
-ghost use Rattle.rasta_core.specs.Ends.{reading_of};
 ghost use Rattle.rasta_core.specs.Names.{AreNames, Names};
 ghost use Rattle.rasta_core.specs.Run.{Ends};
 ghost use Rattle.object_host.specs.Host.{LinkCall};
@@ -21,7 +20,7 @@ use rasta_core::links_are_settled;
 pub fn lawful_ends_are_fit()
     ensures fit { (names : Names) (ends : Ends) → IsLawful names ends → AreFit ends }
     ensures steps { (names : Names) (input : Input) (connection : ℕ) (calls : List LinkCall) (ends : Ends) → AreNames names → IsLawful names ends
-        → MayHear names input connection ends → AreCallsFor (reading_of ends.server.clock) ends.server.link input calls → AreItems calls → Steps input connection ends (called_all connection calls ends) }
+        → MayHear names input connection ends → AreCallsFor input calls → AreItems calls → Steps input connection ends (called_all connection calls ends) }
 {
     calls_may_follow_calls();
     calls_of_a_server_are_moves();

@@ -1,6 +1,6 @@
 //! A point in its host, as the machine sees it.
 
-ghost use Rattle.std.specs.Prelude.{◌≡◌, ◌<◌, ℕ, true, false, List, Some, length, Bool};
+ghost use Rattle.std.specs.Prelude.{◌≡◌, ◌<◌, ℕ, true, false, List, Some, length};
 ghost use Rattle.sci_telegram.specs.Names.{IsName};
 ghost use Rattle.sci_telegram.specs.declared.message.Side.{Side};
 ghost use Rattle.rasta_core.specs.Ends.{reading_of};
@@ -40,9 +40,9 @@ use simulator_machine::moves_of_links_are_moves;
 
 /// At the beginning a point in its host is the machine's, where that stands as the point is sensed.
 pub fn points_begin_seen()
-    ensures { (names : Names) (start : Start) (own_name peer_name : List ℕ) (object : PointState) (version place : ℕ) (is_strict : Bool) (positions : ℕ → Position) → AreFit (started names start)
+    ensures { (names : Names) (start : Start) (own_name peer_name : List ℕ) (object : PointState) (version place : ℕ) (positions : ℕ → Position) → AreFit (started names start)
         → IsName own_name → IsName peer_name → version < 256 → positions place ≡ position_seen object.sensed
-        → IsPointSeen (started names start) (new_host point_behaviour (identity_of Server names) own_name peer_name start.server_first start.server_clock object version is_strict)
+        → IsPointSeen (started names start) (new_host point_behaviour (identity_of Server names) own_name peer_name start.server_first start.server_clock object version)
         ((first positions).points place) }
 {
     links_are_represented();
@@ -83,7 +83,7 @@ pub fn points_pass_time_and_restart()
         → IsPointSeen ends host point → object.sensed ≡ host.object.sensed
         → LinkGoes (moves_by false (is_open ends.server.link.phase) false) (represented ends) (represented (restarted Server clock first ends))
         → PointGoes point (IsPointSeen (restarted Server clock first ends)
-        (new_host point_behaviour ends.server.link.identity host.own_name host.peer_name first clock object host.version host.is_strict)) }
+        (new_host point_behaviour ends.server.link.identity host.own_name host.peer_name first clock object host.version)) }
 {
     moves_of_links_are_moves();
     point_reports_its_moves();

@@ -1,6 +1,6 @@
 //! A signal in its host, as the machine sees it.
 
-ghost use Rattle.std.specs.Prelude.{◌≡◌, ◌≢◌, ℕ, true, false, List, Bool};
+ghost use Rattle.std.specs.Prelude.{◌≡◌, ◌≢◌, ℕ, true, false, List};
 ghost use Rattle.sci_telegram.specs.declared.message.Aspect.TheVariants.{Stop};
 ghost use Rattle.rasta_core.specs.Ends.{reading_of};
 ghost use Rattle.rasta_core.specs.Events.{Start, started};
@@ -27,7 +27,7 @@ ghost use Rattle.simulator_move_laws.specs.Ends.{AreFit, OpensNone, Steps, serve
 ghost use Rattle.simulator_move_laws.specs.Signal.{IsSignalSeen, SignalGoes};
 
 use crate::{items_join, links_are_represented};
-use object_host::{step_settles_first, steps_keep_a_host};
+use object_host::step_settles_first;
 use object_host_laws::{
     signal_shows_what_was_told, step_takes_and_gives, what_is_taken_is_acted_on,
 };
@@ -36,8 +36,8 @@ use simulator_machine::moves_of_links_are_moves;
 
 /// At the beginning a signal in its host is the machine's.
 pub fn signals_begin_seen()
-    ensures { (names : Names) (start : Start) (own_name peer_name : List ℕ) (object : SignalState) (version place : ℕ) (is_strict : Bool) (positions : ℕ → Position) → AreFit (started names start)
-        → IsSignalSeen (started names start) (new_host signal_behaviour (identity_of Server names) own_name peer_name start.server_first start.server_clock object version is_strict)
+    ensures { (names : Names) (start : Start) (own_name peer_name : List ℕ) (object : SignalState) (version place : ℕ) (positions : ℕ → Position) → AreFit (started names start)
+        → IsSignalSeen (started names start) (new_host signal_behaviour (identity_of Server names) own_name peer_name start.server_first start.server_clock object version)
         ((first positions).signals place) }
 {
     links_are_represented();
@@ -56,7 +56,6 @@ pub fn steps_of_signals_are_moves()
     signal_shows_what_was_told();
     step_settles_first::<Signal>();
     step_takes_and_gives::<Signal>();
-    steps_keep_a_host::<Signal>();
     what_is_taken_is_acted_on::<Signal>();
 }
 
@@ -79,7 +78,7 @@ pub fn signals_pass_time_and_restart()
     ensures restarts { (clock first : ℕ) (object : SignalState) (ends : Ends) (host : HostState SignalState) (signal : MachineSignal) → AreFit ends → AreFit (restarted Server clock first ends)
         → IsSignalSeen ends host signal → LinkGoes (moves_by false (is_open ends.server.link.phase) false) (represented ends) (represented (restarted Server clock first ends))
         → SignalGoes signal (IsSignalSeen (restarted Server clock first ends)
-        (new_host signal_behaviour ends.server.link.identity host.own_name host.peer_name first clock object host.version host.is_strict)) }
+        (new_host signal_behaviour ends.server.link.identity host.own_name host.peer_name first clock object host.version)) }
 {
     moves_of_links_are_moves();
     signal_shows_what_was_told();

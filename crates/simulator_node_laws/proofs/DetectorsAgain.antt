@@ -6,14 +6,14 @@ use Rattle.std.proofs.lemmas.Option.{same_Some}
 use Rattle.simulator_spec.specs.sci_telegram.declared.message.Occupancy.{Occupancy}
 use Rattle.simulator_spec.specs.sci_telegram.declared.message.Occupancy.TheVariants.{Clear, Occupied}
 use Rattle.simulator_spec.specs.layout.Entries.{DetectorEntry, Site}
-use Rattle.simulator_spec.specs.rasta_core.Clock.{settled as link_settled}
+use Rattle.simulator_spec.specs.rasta_core.Clock.{alive_until, settled as link_settled}
 use Rattle.simulator_spec.specs.rasta_core.Parameters.{connection_limit}
 use Rattle.simulator_spec.specs.rasta_core.identity.Identity.{Identity}
-use Rattle.simulator_spec.specs.object_host.Host.{HostState, keeping, restrictive_from}
+use Rattle.simulator_spec.specs.object_host.Host.{HostState, keeping}
 use Rattle.simulator_spec.specs.object_host.Hosted.{IsHosted, IsSteady, new_host}
 use Rattle.simulator_spec.specs.object_host.Object.{ObjectCall, Takes, Ticks, Senses, Keeps, Pays, Loses, contacts_in, object_after_all}
-use Rattle.simulator_spec.specs.object_host.Step.{beginning, found, host_step}
-use Rattle.simulator_spec.specs.object_host.Told.{ArePayments, IsToldIn, calls_in_step, contacts_of, has_lost, loses_behind, loss_where}
+use Rattle.simulator_spec.specs.object_host.Step.{beginning, host_step}
+use Rattle.simulator_spec.specs.object_host.Told.{ArePayments, IsToldIn, calls_in_step, contacts_of, has_lost, loss_where}
 use Rattle.simulator_spec.specs.object_host.declared.input.Input.{Input}
 use Rattle.simulator_spec.specs.object_host.declared.input.Input.TheVariants as inputs
 use Rattle.simulator_spec.specs.object_host.declared.sense.Sense.{Sense}
@@ -31,7 +31,7 @@ use Rattle.simulator_node_laws.specs.Lives.{detector_at, detector_sensing, first
 use Rattle.simulator_node_laws.specs.Said.{detector_life}
 use Rattle.simulator_node_laws.proofs.Counts.{length_mapped, length_set}
 use Rattle.simulator_node_laws.proofs.Kept.{kept_in}
-use Rattle.simulator_node_laws.proofs.Noise.{begun_is, begun_where, found_object, is_lost, same_is_noise}
+use Rattle.simulator_node_laws.proofs.Noise.{begun_is, begun_where, is_lost, same_is_noise}
 
 -- ---- how the sections are, call by call
 
@@ -101,10 +101,10 @@ none_paid (Pays ∷ others) are = none_paid others are
 none_paid (Loses ∷ others) are = absurd are
 
 -- the contacts of a step are those that come
-contacts_come : (now moment : ℕ) (begins late ends : Bool) (comes pays : List ObjectCall) → ArePayments pays
-    → contacts_in ((loss_where begins ++ Ticks now ∷ loss_where late) ++ ((comes ++ pays) ++ (loss_where ends ++ Keeps moment ∷ []))) ≡ contacts_in comes
+contacts_come : (now moment : ℕ) (begins ends : Bool) (comes pays : List ObjectCall) → ArePayments pays
+    → contacts_in ((loss_where begins ++ Ticks now ∷ []) ++ ((comes ++ pays) ++ (loss_where ends ++ Keeps moment ∷ []))) ≡ contacts_in comes
 unfolding contacts_in
-contacts_come now moment begins late ends comes pays are = behind begins late where
+contacts_come now moment begins ends comes pays are = behind begins where
   none_last : (test : Bool) → contacts_in (loss_where test ++ Keeps moment ∷ []) ≡ []
   none_last true = refl
   none_last false = refl
@@ -114,11 +114,9 @@ contacts_come now moment begins late ends comes pays are = behind begins late wh
       ∙ ap (λ l. contacts_in (comes ++ pays) ++ l) (none_last ends) ∙ append-nil (contacts_in (comes ++ pays))
       ∙ contacts_joined comes pays ∙ ap (λ l. contacts_in comes ++ l) (none_paid pays are) ∙ append-nil (contacts_in comes)
 
-  behind : (test other : Bool) → contacts_in ((loss_where test ++ Ticks now ∷ loss_where other) ++ ((comes ++ pays) ++ (loss_where ends ++ Keeps moment ∷ []))) ≡ contacts_in comes
-  behind true true = during
-  behind true false = during
-  behind false true = during
-  behind false false = during
+  behind : (test : Bool) → contacts_in ((loss_where test ++ Ticks now ∷ []) ++ ((comes ++ pays) ++ (loss_where ends ++ Keeps moment ∷ []))) ≡ contacts_in comes
+  behind true = during
+  behind false = during
 
 told_of_input : (input : Input) (old : List Occupancy) → told_by (contacts_of input) old ≡ occupied_after input old
 told_of_input inputs.Tick old = refl
@@ -136,8 +134,8 @@ pub record IsKept (own : ℕ) (host : HostState (List Section)) (contacts : List
 
 -- the laws of hosts that this stands on
 pub record DetectorLaws : Type 0 where
-  pub new : (identity : Identity) (own_name peer_name : List ℕ) (first_sequence_number now : ℕ) (object : List Section) (version : ℕ) (is_strict : Bool)
-      → IsHosted detection_behaviour (new_host detection_behaviour identity own_name peer_name first_sequence_number now object version is_strict)
+  pub new : (identity : Identity) (own_name peer_name : List ℕ) (first_sequence_number now : ℕ) (object : List Section) (version : ℕ)
+      → IsHosted detection_behaviour (new_host detection_behaviour identity own_name peer_name first_sequence_number now object version)
   pub steady : (host : HostState (List Section)) → IsHosted detection_behaviour host → IsSteady detection_behaviour host
   pub hosted : (now : ℕ) (input : Input) (host : HostState (List Section)) → IsSteady detection_behaviour host → IsHosted detection_behaviour (host_step detection_behaviour now input host).host
   pub tells : (now : ℕ) (input : Input) (host : HostState (List Section)) → IsToldIn detection_behaviour now input host (host_step detection_behaviour now input host)
@@ -156,7 +154,7 @@ length_told (inputs.Sense (sense.Position position)) old = refl
 
 module _ (laws : DetectorLaws) (site : Site) (entry : DetectorEntry) where
   begins_hosted : (begins : Beginning) (contacts : List Occupancy) → IsHosted detection_behaviour (detector_sensing site begins contacts entry)
-  begins_hosted begins contacts = laws.new _ _ _ _ _ _ _ _
+  begins_hosted begins contacts = laws.new _ _ _ _ _ _ _
 
   begins_kept : (begins : Beginning) (contacts : List Occupancy) → length contacts ≡ length entry.sections → IsKept (length entry.sections) (detector_sensing site begins contacts entry) contacts
   unfolding new_host keeping
@@ -174,8 +172,7 @@ module _ (laws : DetectorLaws) (site : Site) (entry : DetectorEntry) where
         hosted = laws.hosted now input host (laws.steady host kept.hosted);
         sensed = ap occupancies tells.object_is
             ∙ all_tell (calls_in_step now host (tells.comes ++ tells.pays) tells.is_lost (host_step detection_behaviour now input host).host) host.object
-            ∙ ap (λ l. told_by l (occupancies host.object)) (contacts_come now (restrictive_from (host_step detection_behaviour now input host).host) (has_lost (record host { link = link_settled now host.link }))
-            (loses_behind now (beginning detection_behaviour now host)) tells.is_lost tells.comes tells.pays tells.are_payments ∙ tells.senses)
+            ∙ ap (λ l. told_by l (occupancies host.object)) (contacts_come now (alive_until (host_step detection_behaviour now input host).host.link) (has_lost (record host { link = link_settled now host.link })) tells.is_lost tells.comes tells.pays tells.are_payments ∙ tells.senses)
             ∙ ap (told_by (contacts_of input)) kept.sensed
             ∙ told_of_input input contacts;
         long = length_told input contacts ∙ kept.long;
@@ -203,24 +200,15 @@ section_again place told [] is = refl
 section_again zero told (first ∷ others) is = ap (λ s. s ∷ others) (unchanged told first (same_Some first.occupancy told is))
 section_again (suc place) told (first ∷ others) is = ap (λ l. first ∷ l) (section_again place told others is)
 
-begun_tells : (now : ℕ) (host : HostState (List Section)) → occupancies (beginning detection_behaviour now host).object ≡ occupancies host.object
-begun_tells now host = ap (λ (h : HostState (List Section)). occupancies h.object) (begun_is detection_behaviour now host) ∙ cases (is_lost detection_behaviour now host) where
-  cases : (test : Bool) → occupancies (begun_where detection_behaviour test now host).object ≡ occupancies host.object
-  cases true = losing_tells host.object
-  cases false = refl
-
-found_again : (now place : ℕ) (told : Occupancy) (host : HostState (List Section)) → slice_get (occupancies host.object) place ≡ Some told
-    → with_section place (changed told) (found detection_behaviour now host).host.object ≡ (found detection_behaviour now host).host.object
-found_again now place told host is = found_object detection_behaviour (λ sections. with_section place (changed told) sections ≡ sections) now host
-    (section_again place told begun here) (section_again place told (losing begun) (ap (λ l. slice_get l place) (losing_tells begun) ∙ here))
-  where
-    begun : List Section
-    begun = (beginning detection_behaviour now host).object
-
-    here : slice_get (occupancies begun) place ≡ Some told
-    here = ap (λ l. slice_get l place) (begun_tells now host) ∙ is
+begun_again : (now place : ℕ) (told : Occupancy) (host : HostState (List Section)) → slice_get (occupancies host.object) place ≡ Some told
+    → with_section place (changed told) (beginning detection_behaviour now host).object ≡ (beginning detection_behaviour now host).object
+begun_again now place told host is =
+    subst (λ (h : HostState (List Section)). with_section place (changed told) h.object ≡ h.object) (sym (begun_is detection_behaviour now host)) (cases (is_lost detection_behaviour now host)) where
+      cases : (test : Bool) → with_section place (changed told) (begun_where detection_behaviour test now host).object ≡ (begun_where detection_behaviour test now host).object
+      cases true = section_again place told (losing host.object) (ap (λ l. slice_get l place) (losing_tells host.object) ∙ is)
+      cases false = section_again place told host.object is
 
 pub told_again : (own now place : ℕ) (told : Occupancy) (host : HostState (List Section)) (contacts : List Occupancy) → IsKept own host contacts → slice_get contacts place ≡ Some told → host.link.sent < connection_limit
     → IsAsNoise detection_behaviour now (sense.Section place told) host
 told_again own now place told host contacts kept is few =
-    same_is_noise detection_behaviour now (sense.Section place told) host kept.hosted few (found_again now place told host (ap (λ l. slice_get l place) kept.sensed ∙ is))
+    same_is_noise detection_behaviour now (sense.Section place told) host kept.hosted few (begun_again now place told host (ap (λ l. slice_get l place) kept.sensed ∙ is))

@@ -3,11 +3,11 @@ use Rattle.std.proofs.Common.{◌≡◌, ℕ, ◌<◌, Bool, true, false, [], �
 use Rattle.std.specs.Prelude.{◌&&◌, not, nat_le}
 use Rattle.std.proofs.lemmas.Bool.Decides.{nat_tests}
 use Rattle.std.proofs.lemmas.List.{append-nil}
-use Rattle.simulator_spec.specs.rasta_core.Calls.{closing_by, hearing_bytes, receiving}
+use Rattle.simulator_spec.specs.rasta_core.Calls.{hearing_bytes, receiving}
 use Rattle.simulator_spec.specs.rasta_core.Clock.{deadline, settled}
 use Rattle.simulator_spec.specs.rasta_core.Parameters.{connection_limit}
 use Rattle.simulator_spec.specs.rasta_core.Receipt.{Receipt, refusing}
-use Rattle.simulator_spec.specs.rasta_core.PdusHandedOut.{Step, closing as link_closing, entered, limited, sending, silent as link_silent, telling, then_do as then_step}
+use Rattle.simulator_spec.specs.rasta_core.PdusHandedOut.{Step, entered, limited, silent as link_silent, telling}
 use Rattle.simulator_spec.specs.rasta_core.State.{LinkState, is_open}
 use Rattle.simulator_spec.specs.rasta_core.phase.Phase.TheVariants as phase
 use Rattle.simulator_spec.specs.rasta_core.reason.Reason.TheVariants as reason
@@ -15,9 +15,9 @@ use Rattle.simulator_spec.specs.rasta_core.verdict.Verdict.TheVariants as verdic
 use Rattle.simulator_spec.specs.rasta_pdu.PduRead.{reading, text_of}
 use Rattle.simulator_spec.specs.rasta_pdu.declared.fault.PduFault.TheVariants as faults
 use Rattle.simulator_spec.specs.object_host.Behaviour.{Behaviour}
-use Rattle.simulator_spec.specs.object_host.Host.{HostState, HostSoFar, fallen, is_outside, risen, silent, then_do, watched}
+use Rattle.simulator_spec.specs.object_host.Host.{HostState, HostSoFar, fallen, is_outside, risen, silent, then_do}
 use Rattle.simulator_spec.specs.object_host.Hosted.{IsHosted}
-use Rattle.simulator_spec.specs.object_host.Step.{acting_all, beating, beginning, closing, closing_behind, ending, found, given, going_on, hearing, host_step, is_behind, most_owed, paying, received}
+use Rattle.simulator_spec.specs.object_host.Step.{acting_all, beating, beginning, ending, given, hearing, host_step, most_owed, paying, received}
 use Rattle.simulator_spec.specs.object_host.declared.input.Input.{Input}
 use Rattle.simulator_spec.specs.object_host.declared.input.Input.TheVariants as inputs
 use Rattle.simulator_spec.specs.object_host.declared.sense.Sense.{Sense}
@@ -84,40 +84,6 @@ enters : (now : ℕ) (link : LinkState) → link.sent < connection_limit → ent
 unfolding entered
 enters now link few = ap limited (settled_twice now link) ∙ not_limited (settled now link) (subst (λ n. n < connection_limit) (sym (settled_sent now link)) few)
 
--- nor does one at a link that has closed at this reading
-enters_closed : (now : ℕ) (link : LinkState) → is_open link.phase ≡ false → link.clock ≡ now → entered now link ≡ link_silent link
-unfolding entered limited
-enters_closed now link closed at = ap limited (settled_is now link ∙ ap (λ b. settled_where (b && nat_le (deadline link) now) now link) closed ∙ ap (λ n. record link { clock = n }) (sym at)) ∙ rw closed refl
-
-settled_at : (now : ℕ) (link : LinkState) → (settled now link).clock ≡ now
-settled_at now link = ap (λ (l : LinkState). l.clock) (settled_is now link) ∙ cases (is_open link.phase && nat_le (deadline link) now) where
-  cases : (test : Bool) → (settled_where test now link).clock ≡ now
-  cases true = refl
-  cases false = refl
-
--- what a close leaves of a link
-pub record IsShut (now : ℕ) (link : LinkState) : Type 0 where
-  pub closed : is_open link.phase ≡ false
-  pub at : link.clock ≡ now
-
-pub closing_shuts : (now : ℕ) (link : LinkState) → IsShut now (closing_by now reason.User link).link
-unfolding closing_by entered limited link_closing telling sending
-closing_shuts now link = cases (is_open left.phase) (nat_le connection_limit left.sent) where
-  left : LinkState
-  left = settled now link
-
-  at : left.clock ≡ now
-  at = settled_at now link
-
-  here : (o : Bool) → is_open left.phase ≡ o → IsShut now (if o then link_closing reason.User left else link_silent left).link
-  here true opened = record { closed = refl; at = at }
-  here false shut = record { closed = shut; at = at }
-
-  cases : (o b : Bool) → IsShut now (then_step (if o && b then telling reason.Sequence left else link_silent left) (λ l. if is_open l.phase then link_closing reason.User l else link_silent l)).link
-  cases true true = record { closed = refl; at = at }
-  cases true false = here (is_open left.phase) refl
-  cases false b = here (is_open left.phase) refl
-
 hears_noise : (now : ℕ) (link : LinkState) → entered now link ≡ link_silent link → receiving now noise link ≡ refusing (verdict.Unreadable faults.TooShort) link
 unfolding receiving hearing_bytes reading text_of
 hears_noise now link same = ap (λ (begun : Step). record (refusing (verdict.Unreadable faults.TooShort) begun.link) { pdus = begun.pdus ++ [] }) same
@@ -159,14 +125,14 @@ module _ {Object : Type 0} (does : Behaviour Object) where
   abbrev pub begun_where : Bool → ℕ → HostState Object → HostState Object
   begun_where test now host =
       let fell = fallen_where test (clocked now host)
-      in record (watched now fell) { object = does.after_tick now fell.object }
+      in record fell { object = does.after_tick now fell.object }
 
   abbrev pub is_lost : ℕ → HostState Object → Bool
   is_lost now host = not (is_outside host.stage) && not (is_open (settled now host.link).phase)
 
   pub begun_is : (now : ℕ) (host : HostState Object) → beginning does now host ≡ begun_where (is_lost now host) now host
   unfolding beginning
-  begun_is now host = ap (λ (fell : HostState Object). record (watched now fell) { object = does.after_tick now fell.object }) (fallen_is (clocked now host))
+  begun_is now host = ap (λ (fell : HostState Object). record fell { object = does.after_tick now fell.object }) (fallen_is (clocked now host))
 
   pub begun_link : (now : ℕ) (host : HostState Object) → (beginning does now host).link ≡ settled now host.link
   begun_link now host = ap (λ (h : HostState Object). h.link) (begun_is now host) ∙ cases (is_lost now host) where
@@ -208,106 +174,38 @@ module _ {Object : Type 0} (does : Behaviour Object) where
       subst (λ (r : Receipt). AreAlike (then_do (received now noise r host) (acting_all does now r.items)) (silent host)) (sym (hears_noise now host.link enters))
       (record { host_is = not_risen host apart; pdus_are = refl })
 
-  -- the host as the input finds it, by whether it isn't caught up any more
-  abbrev pub found_where : Bool → ℕ → HostState Object → HostState Object
-  found_where true now host = fallen does (closing now reason.User host).host
-  found_where false now host = host
-
-  pub found_is : (now : ℕ) (host : HostState Object) → (closing_behind does now host).host ≡ found_where (is_behind now host) now host
-  unfolding closing_behind
-  found_is now host = cases (is_behind now host) where
-    closed : HostSoFar Object
-    closed = closing now reason.User host
-
-    cases : (test : Bool) → (if test then record closed { host = fallen does closed.host } else silent host).host ≡ found_where test now host
-    cases true = refl
-    cases false = refl
-
-  fallen_link : (host : HostState Object) → (fallen does host).link ≡ host.link
-  fallen_link host = ap (λ (h : HostState Object). h.link) (fallen_is host) ∙ cases (not (is_outside host.stage) && not (is_open host.link.phase)) where
-    cases : (test : Bool) → (fallen_where test host).link ≡ host.link
-    cases true = refl
-    cases false = refl
-
-  -- a host that a call may be made of without more ado, and that isn't outside with a link that is open
-  record IsReady (now : ℕ) (host : HostState Object) : Type 0 where
-    enters_silently : entered now host.link ≡ link_silent host.link
-    apart : (is_outside host.stage && is_open host.link.phase) ≡ false
-
-  found_ready : (now : ℕ) (host : HostState Object) → IsHosted does host → host.link.sent < connection_limit → IsReady now (found does now host).host
-  found_ready now host hosted few = subst (IsReady now) (sym (found_is now begun)) (cases (is_behind now begun)) where
-    begun : HostState Object
-    begun = beginning does now host
-
-    shut : IsShut now (closing_by now reason.User begun.link).link
-    shut = closing_shuts now begun.link
-
-    shut_here : IsShut now (fallen does (closing now reason.User begun).host).link
-    shut_here = subst (IsShut now) (sym (fallen_link (closing now reason.User begun).host)) shut
-
-    never : (one other : Bool) → other ≡ false → (one && other) ≡ false
-    never true other is = is
-    never false other is = refl
-
-    cases : (test : Bool) → IsReady now (found_where test now begun)
-    cases true = record { enters_silently = enters_closed now _ shut_here.closed shut_here.at; apart = never _ _ shut_here.closed }
-    cases false = record {
-      enters_silently = subst (λ l. entered now l ≡ link_silent l) (sym (begun_link now host)) (enters now host.link few);
-      apart = begun_apart now host hosted;
-    }
-
-  -- a step in which nothing comes: the clock rules, a close, the owed reports, and the end
+  -- a step in which nothing comes: the clock rules, the owed reports, and the end
   abbrev pub quiet_step : ℕ → HostState Object → HostSoFar Object
-  quiet_step now host = then_do (found does now host) (paying does now most_owed)
+  quiet_step now host = paying does now most_owed (beginning does now host)
 
   -- what comes and does nothing leaves that
-  ends_alike : (now : ℕ) (input : Input) (host : HostState Object) → ((other : HostState Object) → beating now input other ≡ silent other)
-      → AreAlike (given does now input (found does now host).host) (silent (found does now host).host)
-      → ((host_step does now input host).host ≡ ending does now (quiet_step now host).host) × ((host_step does now input host).pdus ≡ (quiet_step now host).pdus)
-  unfolding host_step going_on
+  ends_alike : (now : ℕ) (input : Input) (host : HostState Object) → ((other : HostState Object) → beating now input other ≡ silent other) → AreAlike (given does now input (beginning does now host)) (silent (beginning does now host))
+      → ((host_step does now input host).host ≡ ending does (quiet_step now host).host) × ((host_step does now input host).pdus ≡ (quiet_step now host).pdus)
+  unfolding host_step
   ends_alike now input host beats alike =
-      let first = found does now host
-      in let heard = given does now input first.host
-      in let paid = both_alike (alike_then heard (silent first.host) (paying does now most_owed) alike) (silent_then first.host (paying does now most_owed))
-      in let told = then_do heard (paying does now most_owed)
+      let begun = beginning does now host
+      in let paid = both_alike (alike_then (given does now input begun) (silent begun) (paying does now most_owed) alike) (silent_then begun (paying does now most_owed))
+      in let told = then_do (given does now input begun) (paying does now most_owed)
       in (
-        ap (λ (p : HostSoFar Object). ending does now p.host) (beats told.host) ∙ ap (ending does now) paid.host_is,
-        ap (λ (p : HostSoFar Object). first.pdus ++ (told.pdus ++ p.pdus)) (beats told.host) ∙ ap (λ ps. first.pdus ++ ps) (append-nil told.pdus ∙ paid.pdus_are),
+        ap (λ (p : HostSoFar Object). ending does p.host) (beats told.host) ∙ ap (ending does) paid.host_is,
+        ap (λ (p : HostSoFar Object). told.pdus ++ p.pdus) (beats told.host) ∙ append-nil told.pdus ∙ paid.pdus_are,
       )
 
   pub noise_is_quiet : (now : ℕ) (host : HostState Object) → IsHosted does host → host.link.sent < connection_limit
-      → ((host_step does now (coming noise) host).host ≡ ending does now (quiet_step now host).host) × ((host_step does now (coming noise) host).pdus ≡ (quiet_step now host).pdus)
+      → ((host_step does now (coming noise) host).host ≡ ending does (quiet_step now host).host) × ((host_step does now (coming noise) host).pdus ≡ (quiet_step now host).pdus)
   unfolding given beating
-  noise_is_quiet now host hosted few =
-      let ready = found_ready now host hosted few
-      in ends_alike now (coming noise) host (λ other. refl) (noise_is_heard now (found does now host).host ready.enters_silently ready.apart)
+  noise_is_quiet now host hosted few = ends_alike now (coming noise) host (λ other. refl) (noise_is_heard now (beginning does now host) begins (begun_apart now host hosted)) where
+    begins : entered now (beginning does now host).link ≡ link_silent (beginning does now host).link
+    begins = subst (λ l. entered now l ≡ link_silent l) (sym (begun_link now host)) (enters now host.link few)
 
-  same_is_quiet : (now : ℕ) (contact : Sense) (host : HostState Object) → does.after_sense now contact (found does now host).host.object ≡ (found does now host).host.object
-      → ((host_step does now (inputs.Sense contact) host).host ≡ ending does now (quiet_step now host).host) × ((host_step does now (inputs.Sense contact) host).pdus ≡ (quiet_step now host).pdus)
+  same_is_quiet : (now : ℕ) (contact : Sense) (host : HostState Object) → does.after_sense now contact (beginning does now host).object ≡ (beginning does now host).object
+      → ((host_step does now (inputs.Sense contact) host).host ≡ ending does (quiet_step now host).host) × ((host_step does now (inputs.Sense contact) host).pdus ≡ (quiet_step now host).pdus)
   unfolding given beating
   same_is_quiet now contact host same = ends_alike now (inputs.Sense contact) host (λ other. refl)
-      (record { host_is = ap (λ o. record (found does now host).host { object = o }) same; pdus_are = refl })
-
-  -- what is so of the object as the step begins, and after a loss, is so of the object that is found
-  pub found_object : (Holds : Object → Type 0) (now : ℕ) (host : HostState Object) → Holds (beginning does now host).object → Holds (does.after_loss (beginning does now host).object)
-      → Holds (found does now host).host.object
-  found_object Holds now host one other = subst (λ (h : HostState Object). Holds h.object) (sym (found_is now begun)) (cases (is_behind now begun)) where
-    begun : HostState Object
-    begun = beginning does now host
-
-    closed : HostState Object
-    closed = (closing now reason.User begun).host
-
-    fell : (test : Bool) → Holds (fallen_where test closed).object
-    fell true = other
-    fell false = one
-
-    cases : (test : Bool) → Holds (found_where test now begun).object
-    cases true = subst (λ (h : HostState Object). Holds h.object) (sym (fallen_is closed)) (fell (not (is_outside closed.stage) && not (is_open closed.link.phase)))
-    cases false = one
+      (record { host_is = ap (λ o. record (beginning does now host) { object = o }) same; pdus_are = refl })
 
   pub same_is_noise : (now : ℕ) (contact : Sense) (host : HostState Object) → IsHosted does host → host.link.sent < connection_limit
-      → does.after_sense now contact (found does now host).host.object ≡ (found does now host).host.object → IsAsNoise does now contact host
+      → does.after_sense now contact (beginning does now host).object ≡ (beginning does now host).object → IsAsNoise does now contact host
   same_is_noise now contact host hosted few same =
       let one = same_is_quiet now contact host same
       in let other = noise_is_quiet now host hosted few

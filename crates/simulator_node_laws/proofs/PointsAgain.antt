@@ -1,20 +1,17 @@
 -- A point that its contacts tell again where it stands.
-use Rattle.std.proofs.Common.{◌≡◌, ℕ, ◌+◌, ◌<◌, Bool, true, false, List, [], ◌∷◌, Option, Some, None, refl, sym, ap, subst, ◌∙◌, if◌then◌else◌}
-use Rattle.std.specs.Prelude.{◌&&◌, nat_le, nat_lt}
+use Rattle.std.proofs.Common.{◌≡◌, ℕ, ◌<◌, Bool, true, false, List, [], ◌∷◌, Option, Some, None, refl, sym, ap, subst, ◌∙◌, if◌then◌else◌}
+use Rattle.std.specs.Prelude.{nat_le}
 use Rattle.simulator_spec.specs.sci_telegram.declared.message.Position.{Position}
 use Rattle.simulator_spec.specs.sci_telegram.declared.message.Side.{Side}
 use Rattle.simulator_spec.specs.layout.declared.entries.Point.{Point as PointEntry}
 use Rattle.simulator_spec.specs.layout.Entries.{Site}
-use Rattle.simulator_spec.specs.rasta_core.CaughtUp.{caught_up, is_recovering}
-use Rattle.simulator_spec.specs.rasta_core.Clock.{alive_until, deadline, open_state, state_at}
-use Rattle.simulator_spec.specs.rasta_core.Parameters.{connection_limit, quiet_time}
-use Rattle.simulator_spec.specs.rasta_core.State.{LinkState, is_open}
+use Rattle.simulator_spec.specs.rasta_core.Clock.{alive_until}
+use Rattle.simulator_spec.specs.rasta_core.Parameters.{connection_limit}
 use Rattle.simulator_spec.specs.rasta_core.identity.Identity.{Identity}
-use Rattle.simulator_spec.specs.rasta_core.phase.State.TheVariants as state
-use Rattle.simulator_spec.specs.object_host.Host.{HostState, HostSoFar, fallen, keeping, restrictive_from, then_do}
+use Rattle.simulator_spec.specs.object_host.Host.{HostState, keeping}
 use Rattle.simulator_spec.specs.object_host.Hosted.{IsHosted, IsSteady, new_host}
 use Rattle.simulator_spec.specs.object_host.Object.{ObjectCall, Takes, Ticks, Senses, Keeps, Pays, Loses, object_after, object_after_all}
-use Rattle.simulator_spec.specs.object_host.Step.{beating, beginning, ending, found, given, going_on, host_step, most_owed, paying}
+use Rattle.simulator_spec.specs.object_host.Step.{beginning, host_step}
 use Rattle.simulator_spec.specs.object_host.declared.input.Input.{Input}
 use Rattle.simulator_spec.specs.object_host.declared.input.Input.TheVariants as inputs
 use Rattle.simulator_spec.specs.object_host.declared.sense.Sense.TheVariants as sense
@@ -30,7 +27,7 @@ use Rattle.simulator_node_laws.specs.Contacts.{IsAsNoise, point_now}
 use Rattle.simulator_node_laws.specs.Lives.{first_life, host_after, point_at, position_after, position_in}
 use Rattle.simulator_node_laws.specs.Shown.{point_life}
 use Rattle.simulator_node_laws.proofs.Kept.{kept_in}
-use Rattle.simulator_node_laws.proofs.Noise.{begun_is, begun_where, found_object, is_lost, same_is_noise}
+use Rattle.simulator_node_laws.proofs.Noise.{begun_is, begun_where, is_lost, same_is_noise}
 
 -- ---- no drive goes on once the point stands where it leads
 
@@ -88,46 +85,20 @@ all_go_on (first ∷ others) point going = all_go_on others (object_after point_
 
 -- ---- what is so of a point in its host
 
--- It senses where its contacts told last that it stands; no drive leads there, and none outlives the link, nor in a strict host what
--- that is caught up with.
+-- It senses where its contacts told last that it stands; no drive leads there, and none outlives the link.
 pub record IsKept (host : HostState PointState) (position : Position) : Type 0 where
   pub hosted : IsHosted point_behaviour host
   pub sensed : host.object.sensed ≡ position
   pub goes_on : is_done host.object.progress host.object.sensed ≡ false
-  pub until : host.object.until ≡ restrictive_from host
-  -- where its link misses nothing, it is caught up as long as that lives
-  pub caught : is_recovering (open_state host.link.phase) ≡ false → host.caught_up_until ≡ alive_until host.link
+  pub until : host.object.until ≡ alive_until host.link
 
 -- the laws of hosts that this stands on
 pub record PointLaws : Type 0 where
-  pub new : (identity : Identity) (own_name peer_name : List ℕ) (first_sequence_number now : ℕ) (object : PointState) (version : ℕ) (is_strict : Bool)
-      → IsHosted point_behaviour (new_host point_behaviour identity own_name peer_name first_sequence_number now object version is_strict)
+  pub new : (identity : Identity) (own_name peer_name : List ℕ) (first_sequence_number now : ℕ) (object : PointState) (version : ℕ)
+      → IsHosted point_behaviour (new_host point_behaviour identity own_name peer_name first_sequence_number now object version)
   pub steady : (host : HostState PointState) → IsHosted point_behaviour host → IsSteady point_behaviour host
   pub hosted : (now : ℕ) (input : Input) (host : HostState PointState) → IsSteady point_behaviour host → IsHosted point_behaviour (host_step point_behaviour now input host).host
   pub step : (now : ℕ) (input : Input) (host : HostState PointState) → IsPointStep now input host (host_step point_behaviour now input host)
-
-watched_ends : (now kept : ℕ) (link : LinkState) → is_recovering (open_state link.phase) ≡ false → caught_up now kept link ≡ alive_until link
-unfolding state_at
-watched_ends now kept link none = cases (is_open link.phase && nat_lt now (deadline link)) (nat_lt now (deadline link + quiet_time)) where
-  cases : (a b : Bool) → (if is_recovering (if a then open_state link.phase else if b then state.Quiet else state.Down) then kept else alive_until link) ≡ alive_until link
-  cases true b = ap (λ (r : Bool). if r then kept else alive_until link) none
-  cases false true = refl
-  cases false false = refl
-
-ended_caught : (now : ℕ) (host : HostState PointState) → is_recovering (open_state (ending point_behaviour now host).link.phase) ≡ false
-    → (ending point_behaviour now host).caught_up_until ≡ alive_until (ending point_behaviour now host).link
-unfolding keeping
-ended_caught now host none = watched_ends now (fallen point_behaviour host).caught_up_until (fallen point_behaviour host).link none
-
-step_caught : (now : ℕ) (input : Input) (host : HostState PointState) → is_recovering (open_state (host_step point_behaviour now input host).host.link.phase) ≡ false
-    → (host_step point_behaviour now input host).host.caught_up_until ≡ alive_until (host_step point_behaviour now input host).host.link
-unfolding host_step going_on
-step_caught now input host none = ended_caught now (beating now input told.host).host none where
-  heard : HostSoFar PointState
-  heard = given point_behaviour now input (found point_behaviour now host).host
-
-  told : HostSoFar PointState
-  told = then_do heard (paying point_behaviour now most_owed)
 
 same_position : (input : Input) (position : Position) → position_told input position ≡ position_after input position
 same_position inputs.Tick position = refl
@@ -137,11 +108,11 @@ same_position (inputs.Sense (sense.Section place occupancy)) position = refl
 
 module _ (laws : PointLaws) (site : Site) (entry : PointEntry) where
   begins_hosted : (begins : Beginning) (position : Position) → IsHosted point_behaviour (new_point site begins position entry)
-  begins_hosted begins position = laws.new _ _ _ _ _ _ _ _
+  begins_hosted begins position = laws.new _ _ _ _ _ _ _
 
   begins_kept : (begins : Beginning) (position : Position) → IsKept (new_point site begins position entry) position
   unfolding new_host keeping
-  begins_kept begins position = record { hosted = begins_hosted begins position; sensed = refl; goes_on = refl; until = refl; caught = λ none. refl }
+  begins_kept begins position = record { hosted = begins_hosted begins position; sensed = refl; goes_on = refl; until = refl }
 
   step_kept : (now : ℕ) (input : Input) (host : HostState PointState) (position : Position) → IsKept host position → IsKept (host_step point_behaviour now input host).host (position_after input position)
   step_kept now input host position kept =
@@ -151,7 +122,6 @@ module _ (laws : PointLaws) (site : Site) (entry : PointEntry) where
         sensed = step.stands_after ∙ step.stands ∙ ap (position_told input) kept.sensed ∙ same_position input position;
         goes_on = subst (λ (o : PointState). is_done o.progress o.sensed ≡ false) (sym step.tells.object_is) (all_go_on _ host.object kept.goes_on);
         until = step.until;
-        caught = step_caught now input host;
       }
 
   pub point_kept : (table : Table) (outset : Outset) (events : List Event) (place : ℕ) → IsKept (point_now site entry (point_life site table outset events place)) (point_life site table outset events place).contacts
@@ -187,20 +157,6 @@ begun_again now host going =
       cases true = sensed_again now (losing host.object) refl
       cases false = sensed_again now host.object going
 
-begun_sensed : (now : ℕ) (host : HostState PointState) → (beginning point_behaviour now host).object.sensed ≡ host.object.sensed
-begun_sensed now host = ap (λ (h : HostState PointState). h.object.sensed) (begun_is point_behaviour now host) ∙ cases (is_lost point_behaviour now host) where
-  cases : (test : Bool) → (begun_where point_behaviour test now host).object.sensed ≡ host.object.sensed
-  cases true = refl
-  cases false = refl
-
-found_again : (now : ℕ) (host : HostState PointState) → is_done host.object.progress host.object.sensed ≡ false
-    → sensing now (sense.Position host.object.sensed) (found point_behaviour now host).host.object ≡ (found point_behaviour now host).host.object
-found_again now host going = found_object point_behaviour (λ point. sensing now (sense.Position host.object.sensed) point ≡ point) now host (begun_again now host going)
-    (subst (λ p. sensing now (sense.Position p) lost ≡ lost) (begun_sensed now host) refl)
-  where
-    lost : PointState
-    lost = losing (beginning point_behaviour now host).object
-
 pub told_again : (now : ℕ) (host : HostState PointState) (position : Position) → IsKept host position → host.link.sent < connection_limit → IsAsNoise point_behaviour now (sense.Position position) host
 told_again now host position kept few = subst (λ p. IsAsNoise point_behaviour now (sense.Position p) host) kept.sensed
-    (same_is_noise point_behaviour now (sense.Position host.object.sensed) host kept.hosted few (found_again now host kept.goes_on))
+    (same_is_noise point_behaviour now (sense.Position host.object.sensed) host kept.hosted few (begun_again now host kept.goes_on))

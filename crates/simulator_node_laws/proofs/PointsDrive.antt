@@ -1,20 +1,16 @@
 -- A step in which nothing comes leaves a point driven as it was.
-use Rattle.std.proofs.Common.{◌≡◌, ℕ, zero, suc, ◌+◌, ◌<◌, ◌≤◌, Bool, true, false, Option, Some, None, refl, sym, ap, ◌∙◌, arith, if◌then◌else◌}
-use Rattle.std.specs.Prelude.{◌&&◌, min, not, is_none, is_ok, nat_le, nat_lt, Result}
-use Rattle.std.proofs.lemmas.Bool.{leb-true}
+use Rattle.std.proofs.Common.{◌≡◌, ℕ, zero, suc, ◌<◌, Bool, true, false, Option, Some, None, refl, sym, ap, ◌∙◌, arith, if◌then◌else◌}
+use Rattle.std.specs.Prelude.{◌&&◌, not, is_none, is_ok, nat_le, nat_lt}
 use Rattle.std.proofs.lemmas.Bool.Decides.{nat_tests}
 use Rattle.std.proofs.lemmas.Option.{none-some}
 use Rattle.simulator_spec.specs.sci_telegram.declared.message.Position.{Position}
 use Rattle.simulator_spec.specs.sci_telegram.declared.message.Side.{Side}
 use Rattle.simulator_spec.specs.rasta_core.Calls.{answer_to_send}
-use Rattle.simulator_spec.specs.rasta_core.CaughtUp.{caught_up, is_recovering}
-use Rattle.simulator_spec.specs.rasta_core.Clock.{alive_until, deadline, open_state, settled, state_at}
-use Rattle.simulator_spec.specs.rasta_core.Parameters.{connection_limit, time_limit}
-use Rattle.simulator_spec.specs.rasta_core.State.{LinkState, is_open, is_up}
-use Rattle.simulator_spec.specs.rasta_core.fault.SendFault.{SendFault}
-use Rattle.simulator_spec.specs.rasta_core.reason.Reason.TheVariants as reason
-use Rattle.simulator_spec.specs.object_host.Host.{HostState, HostSoFar, fallen, is_completed, is_outside, keeping, restrictive_from, silent, then_do, watched}
-use Rattle.simulator_spec.specs.object_host.Step.{after_refusal, beginning, closes_when_refused, closing, ending, found, goes_on, host_step, is_behind, most_owed, paid, paying, paying_first, posting}
+use Rattle.simulator_spec.specs.rasta_core.Clock.{alive_until, deadline, settled}
+use Rattle.simulator_spec.specs.rasta_core.Parameters.{connection_limit}
+use Rattle.simulator_spec.specs.rasta_core.State.{LinkState, is_open}
+use Rattle.simulator_spec.specs.object_host.Host.{HostState, HostSoFar, is_completed, is_outside, keeping, silent, then_do}
+use Rattle.simulator_spec.specs.object_host.Step.{beginning, ending, goes_on, host_step, paid, paying, paying_first, posting}
 use Rattle.simulator_spec.specs.object_host.declared.report.Report.{Report}
 use Rattle.simulator_spec.specs.object_host.declared.stage.Stage.{Stage}
 use Rattle.simulator_spec.specs.object_host.declared.stage.Stage.TheVariants as stage
@@ -24,7 +20,7 @@ use Rattle.simulator_spec.specs.point_ctl.declared.progress.Progress.{Progress}
 use Rattle.simulator_spec.specs.point_ctl.declared.progress.Progress.TheVariants.{Answered, Driving, Arrived, TimedOut}
 use Rattle.simulator_spec.specs.Happens.{coming}
 use Rattle.simulator_node_laws.specs.Contacts.{noise}
-use Rattle.simulator_node_laws.proofs.Noise.{begun_is, begun_where, closing_shuts, fallen_is, fallen_where, found_is, found_object, found_where, is_lost, lost_closed, noise_is_quiet, quiet_step, settled_is, settled_where}
+use Rattle.simulator_node_laws.proofs.Noise.{begun_is, begun_where, fallen_is, fallen_where, is_lost, lost_closed, noise_is_quiet, quiet_step, settled_is, settled_where}
 use Rattle.simulator_node_laws.proofs.PointsAgain.{IsKept}
 
 -- ---- a point that isn't driven
@@ -41,13 +37,6 @@ still_undriven now until (Driving side since) still = absurd (none-some side (sy
 still_undriven now until Arrived still = refl
 still_undriven now until TimedOut still = refl
 
-refused_object : (now : ℕ) (answer : Result Unit SendFault) (host : HostState PointState) → (after_refusal point_behaviour now answer host).host.object ≡ host.object
-unfolding after_refusal
-refused_object now answer host = cases (closes_when_refused point_behaviour answer host) where
-  cases : (test : Bool) → (if test then closing now reason.Window host else silent host).host.object ≡ host.object
-  cases true = refl
-  cases false = refl
-
 first_still : (now : ℕ) (host : HostState PointState) (owed : Option Report) → move_in host.object.progress ≡ None → move_in (paying_first point_behaviour now owed host).host.object.progress ≡ None
 unfolding posting
 first_still now host None still = still
@@ -55,10 +44,10 @@ first_still now host (Some report) still = by_tests (not (is_completed host.stag
   by_tests : (one other : Bool)
       → move_in (if one then silent (paid point_behaviour host) else
       let sent = posting now report host
-      in if other then record sent { host = paid point_behaviour sent.host } else then_do sent (after_refusal point_behaviour now (answer_to_send now host.link))).host.object.progress ≡ None
+      in if other then record sent { host = paid point_behaviour sent.host } else sent).host.object.progress ≡ None
   by_tests true other = answered_still host.object.progress still
   by_tests false true = answered_still host.object.progress still
-  by_tests false false = ap (λ (o : PointState). move_in o.progress) (refused_object now (answer_to_send now host.link) (posting now report host).host) ∙ still
+  by_tests false false = still
 
 paying_still : (now more : ℕ) (host : HostState PointState) → move_in host.object.progress ≡ None → move_in (paying point_behaviour now more host).host.object.progress ≡ None
 unfolding paying
@@ -71,20 +60,16 @@ paying_still now (suc more) host still = cases (goes_on now (owing host.object) 
   cases true later = later
   cases false later = first_still now host (owing host.object) still
 
-ending_still : (now : ℕ) (host : HostState PointState) → move_in host.object.progress ≡ None → drives now (ending point_behaviour now host).object ≡ None
+ending_still : (now : ℕ) (host : HostState PointState) → move_in host.object.progress ≡ None → drives now (ending point_behaviour host).object ≡ None
 unfolding keeping
-ending_still now host still = ap (λ (h : HostState PointState). drives now (keeping point_behaviour (watched now h)).object) (fallen_is point_behaviour host)
+ending_still now host still = ap (λ (h : HostState PointState). drives now (keeping point_behaviour h).object) (fallen_is point_behaviour host)
     ∙ cases (not (is_outside host.stage) && not (is_open host.link.phase)) where
-      cases : (test : Bool) → drives now (keeping point_behaviour (watched now (fallen_where point_behaviour test host))).object ≡ None
+      cases : (test : Bool) → drives now (keeping point_behaviour (fallen_where point_behaviour test host)).object ≡ None
       cases true = refl
-      cases false = still_undriven now (restrictive_from (watched now host)) host.object.progress still
+      cases false = still_undriven now (alive_until host.link) host.object.progress still
 
--- a step in which nothing comes doesn't drive a point that it finds undriven
-found_still : (now : ℕ) (host : HostState PointState) → move_in (found point_behaviour now host).host.object.progress ≡ None → drives now (ending point_behaviour now (quiet_step point_behaviour now host).host).object ≡ None
-found_still now host still = ending_still now (quiet_step point_behaviour now host).host (paying_still now _ (found point_behaviour now host).host still)
-
-quiet_still : (now : ℕ) (host : HostState PointState) → move_in (beginning point_behaviour now host).object.progress ≡ None → drives now (ending point_behaviour now (quiet_step point_behaviour now host).host).object ≡ None
-quiet_still now host still = found_still now host (found_object point_behaviour (λ (o : PointState). move_in o.progress ≡ None) now host still refl)
+quiet_still : (now : ℕ) (host : HostState PointState) → move_in (beginning point_behaviour now host).object.progress ≡ None → drives now (ending point_behaviour (quiet_step point_behaviour now host).host).object ≡ None
+quiet_still now host still = ending_still now (quiet_step point_behaviour now host).host (paying_still now _ (beginning point_behaviour now host) still)
 
 -- ---- a drive that goes on
 
@@ -163,57 +148,11 @@ alive_settled now link inside = ap alive_until (settled_is now link) ∙ cases (
     none e = cc (e)
   cases false is = same_end now link
 
--- ---- until when it may be driven
-
-restrictive_early : (host : HostState PointState) → restrictive_from host ≤ alive_until host.link
-restrictive_early host = cases host.is_strict where
-  cases : (b : Bool) → (if b then min host.caught_up_until (alive_until host.link) else alive_until host.link) ≤ alive_until host.link
-  cases true = omega arith
-  cases false = omega arith
-
-past_too : (now late early : ℕ) → early ≤ late → nat_lt now late ≡ false → nat_lt now early ≡ false
-past_too now late early before past = grind (arith, nat_tests)
-
-not_before : (now until : ℕ) → until ≤ now → nat_lt now until ≡ false
-not_before now until past = grind (arith, nat_tests)
-
--- what is kept of it, and what the clock makes of that, are the same where the link lives on
-caught_again : (now : ℕ) (host : HostState PointState) → (is_recovering (open_state host.link.phase) ≡ false → host.caught_up_until ≡ alive_until host.link) → is_open (settled now host.link).phase ≡ true
-    → caught_up now host.caught_up_until (settled now host.link) ≡ host.caught_up_until
-unfolding state_at deadline
-caught_again now host caught inside = ap (caught_up now host.caught_up_until) here ∙ cases (is_recovering (open_state host.link.phase)) refl where
-  unclosed : (is_open host.link.phase && nat_le (deadline host.link) now) ≡ false
-  unclosed = kept (is_open host.link.phase && nat_le (deadline host.link) now) refl where
-    kept : (test : Bool) → (is_open host.link.phase && nat_le (deadline host.link) now) ≡ test → test ≡ false
-    kept true is = absurd (none (sym (ap (λ (l : LinkState). is_open l.phase) (settled_is now host.link ∙ ap (λ b. settled_where b now host.link) is)) ∙ inside)) where
-      none : false ≡ true → ⊥
-      none e = cc (e)
-    kept false is = refl
-
-  here : settled now host.link ≡ record host.link { clock = now }
-  here = settled_is now host.link ∙ ap (λ b. settled_where b now host.link) unclosed
-
-  opened : is_open host.link.phase ≡ true
-  opened = ap (λ (l : LinkState). is_open l.phase) (sym here) ∙ inside
-
-  early : nat_lt now (host.link.own_stamp + time_limit) ≡ true
-  early = before (host.link.own_stamp + time_limit) (sym (rw opened refl) ∙ unclosed) where
-    before : (end : ℕ) → nat_le end now ≡ false → nat_lt now end ≡ true
-    before end late = grind (arith, nat_tests)
-
-  at : (recovering : Bool) → is_recovering (open_state host.link.phase) ≡ recovering
-      → caught_up now host.caught_up_until (record host.link { clock = now }) ≡ (if recovering then host.caught_up_until else alive_until (record host.link { clock = now }))
-  at recovering is = rw (opened, early) (ap (λ b. if b then host.caught_up_until else alive_until (record host.link { clock = now })) is)
-
-  cases : (recovering : Bool) → is_recovering (open_state host.link.phase) ≡ recovering → caught_up now host.caught_up_until (record host.link { clock = now }) ≡ host.caught_up_until
-  cases true is = at true is
-  cases false is = at false is ∙ same_end now host.link ∙ sym (caught is)
-
 -- ---- a step in which nothing comes
 
 module _ (now : ℕ) (host : HostState PointState) (position : Position) (kept : IsKept host position) where
   abbrev Drives : Type 0
-  Drives = drives now (ending point_behaviour now (quiet_step point_behaviour now host).host).object ≡ drives now host.object
+  Drives = drives now (ending point_behaviour (quiet_step point_behaviour now host).host).object ≡ drives now host.object
 
   begun_at : (test : Bool) → is_lost point_behaviour now host ≡ test → beginning point_behaviour now host ≡ begun_where point_behaviour test now host
   begun_at test is = begun_is point_behaviour now host ∙ ap (λ b. begun_where point_behaviour b now host) is
@@ -221,7 +160,7 @@ module _ (now : ℕ) (host : HostState PointState) (position : Position) (kept :
   -- the clock rules have lost the link: its moment has come
   when_lost : is_lost point_behaviour now host ≡ true → Drives
   when_lost lost = quiet_still now host (ap (λ (h : HostState PointState). move_in h.object.progress) (begun_at true lost))
-      ∙ sym (undriven_past now host.object.until host.object.progress (ap (nat_lt now) kept.until ∙ past_too now (alive_until host.link) (restrictive_from host) (restrictive_early host) (alive_past now host.link late)))
+      ∙ sym (undriven_past now host.object.until host.object.progress (ap (nat_lt now) kept.until ∙ alive_past now host.link late))
     where
       late : nat_le (deadline host.link) now ≡ true
       late = late_when_closed now host.link (lost_was (is_outside host.stage) (is_open (settled now host.link).phase) (is_open host.link.phase) lost kept.hosted.outside)
@@ -244,82 +183,22 @@ module _ (now : ℕ) (host : HostState PointState) (position : Position) (kept :
   abbrev begun : HostState PointState
   begun = begun_where point_behaviour false now host
 
-  -- the host as its step finds it, where it isn't lost
-  begun_is_here : is_lost point_behaviour now host ≡ false → beginning point_behaviour now host ≡ begun
-  begun_is_here stays = begun_at false stays
-
-  caught_here : is_open (settled now host.link).phase ≡ true → begun.caught_up_until ≡ host.caught_up_until
-  caught_here inside = caught_again now host kept.caught inside
-
-  -- it isn't caught up any more: it was driven neither before nor behind
-  when_behind : is_lost point_behaviour now host ≡ false → is_open (settled now host.link).phase ≡ true → is_outside host.stage ≡ false → is_behind now (beginning point_behaviour now host) ≡ true → Drives
-  when_behind stays inside within is = found_still now host still ∙ sym (undriven_past now host.object.until host.object.progress (ap (nat_lt now) kept.until ∙ past)) where
-    closed : HostState PointState
-    closed = (closing now reason.User begun).host
-
-    lost : (not (is_outside closed.stage) && not (is_open closed.link.phase)) ≡ true
-    lost = rw (within, (closing_shuts now (settled now host.link)).closed) refl
-
-    found_here : (found point_behaviour now host).host ≡ fallen_where point_behaviour true closed
-    found_here = found_is point_behaviour now (beginning point_behaviour now host) ∙ ap (λ b. found_where point_behaviour b now (beginning point_behaviour now host)) is
-        ∙ ap (λ (h : HostState PointState). fallen point_behaviour (closing now reason.User h).host) (begun_is_here stays)
-        ∙ fallen_is point_behaviour closed ∙ ap (λ b. fallen_where point_behaviour b closed) lost
-
-    still : move_in (found point_behaviour now host).host.object.progress ≡ None
-    still = ap (λ (h : HostState PointState). move_in h.object.progress) found_here
-
-    test : (host.is_strict && is_up (settled now host.link).phase && nat_le begun.caught_up_until now) ≡ true
-    test = ap (is_behind now) (sym (begun_is_here stays)) ∙ is
-
-    parts : (strict up late : Bool) → strict && up && late ≡ true → (strict ≡ true) × (late ≡ true)
-    parts true true true so = (refl, refl)
-    parts true true false so = absurd (none so) where
-      none : false ≡ true → ⊥
-      none e = cc (e)
-    parts true false late so = absurd (none so) where
-      none : false ≡ true → ⊥
-      none e = cc (e)
-    parts false up late so = absurd (none so) where
-      none : false ≡ true → ⊥
-      none e = cc (e)
-
-    over : nat_le host.caught_up_until now ≡ true
-    over = ap (λ n. nat_le n now) (sym (caught_here inside)) ∙ (parts host.is_strict (is_up (settled now host.link).phase) (nat_le begun.caught_up_until now) test).1
-
-    past : nat_lt now (restrictive_from host) ≡ false
-    past = rw (parts host.is_strict (is_up (settled now host.link).phase) (nat_le begun.caught_up_until now) test).0 (not_before now (min host.caught_up_until (alive_until host.link)) (omega (arith, leb-true host.caught_up_until now over)))
-
   when_driving : is_lost point_behaviour now host ≡ false → (side : Side) (since : ℕ) → host.object.progress ≡ Driving side since → nat_le (drive_end since) now ≡ false → Drives
   unfolding keeping
-  when_driving stays side since is before = by (is_behind now (beginning point_behaviour now host)) refl where
-    within : is_outside host.stage ≡ false
-    within = completed_inside host.stage (completed side since is)
+  when_driving stays side since is before =
+      ap (λ (h : HostState PointState). drives now (ending point_behaviour h).object) (ap (λ (p : HostSoFar PointState). p.host) (no_report now _ (beginning point_behaviour now host) side since begun_drives) ∙ begun_at false stays)
+      ∙ ap (λ (h : HostState PointState). drives now (keeping point_behaviour h).object) (fallen_is point_behaviour begun ∙ ap (λ b. fallen_where point_behaviour b begun) stays)
+      ∙ ap (λ p. driven now (alive_until (settled now host.link)) p) same_progress
+      ∙ ap (λ n. driven now n host.object.progress) (alive_settled now host.link inside ∙ sym kept.until)
+    where
+      same_progress : limited now host.object.progress ≡ host.object.progress
+      same_progress = ap (limited now) is ∙ ap (λ b. if b then TimedOut else Driving side since) before ∙ sym is
 
-    inside : is_open (settled now host.link).phase ≡ true
-    inside = stays_open (is_outside host.stage) (is_open (settled now host.link).phase) stays within
+      begun_drives : (beginning point_behaviour now host).object.progress ≡ Driving side since
+      begun_drives = ap (λ (h : HostState PointState). h.object.progress) (begun_at false stays) ∙ same_progress ∙ is
 
-    same_progress : limited now host.object.progress ≡ host.object.progress
-    same_progress = ap (limited now) is ∙ ap (λ b. if b then TimedOut else Driving side since) before ∙ sym is
-
-    begun_drives : (beginning point_behaviour now host).object.progress ≡ Driving side since
-    begun_drives = ap (λ (h : HostState PointState). h.object.progress) (begun_at false stays) ∙ same_progress ∙ is
-
-    -- until when it may be driven stays
-    same_until : restrictive_from (watched now begun) ≡ restrictive_from host
-    same_until =
-        ap (λ n. if host.is_strict then min n (alive_until (settled now host.link)) else alive_until (settled now host.link))
-        (ap (λ n. caught_up now n (settled now host.link)) (caught_here inside) ∙ caught_here inside)
-        ∙ ap (λ n. if host.is_strict then min host.caught_up_until n else n) (alive_settled now host.link inside)
-
-    by : (late : Bool) → is_behind now (beginning point_behaviour now host) ≡ late → Drives
-    by true late = when_behind stays inside within late
-    by false none =
-        ap (λ (h : HostState PointState). drives now (ending point_behaviour now (paying point_behaviour now most_owed h).host).object)
-        (found_is point_behaviour now (beginning point_behaviour now host) ∙ ap (λ b. found_where point_behaviour b now (beginning point_behaviour now host)) none)
-        ∙ ap (λ (h : HostState PointState). drives now (ending point_behaviour now h).object) (ap (λ (p : HostSoFar PointState). p.host) (no_report now _ (beginning point_behaviour now host) side since begun_drives) ∙ begun_at false stays)
-        ∙ ap (λ (h : HostState PointState). drives now (keeping point_behaviour (watched now h)).object) (fallen_is point_behaviour begun ∙ ap (λ b. fallen_where point_behaviour b begun) stays)
-        ∙ ap (λ p. driven now (restrictive_from (watched now begun)) p) same_progress
-        ∙ ap (λ n. driven now n host.object.progress) (same_until ∙ sym kept.until)
+      inside : is_open (settled now host.link).phase ≡ true
+      inside = stays_open (is_outside host.stage) (is_open (settled now host.link).phase) stays (completed_inside host.stage (completed side since is))
 
   when_kept : is_lost point_behaviour now host ≡ false → (progress : Progress) → host.object.progress ≡ progress → Drives
   when_kept stays Answered is = when_still stays Answered is refl refl

@@ -22,16 +22,16 @@ use Rattle.simulator_spec.specs.rasta_core.Receipt.{ahead, behind, age, still_wa
 use Rattle.simulator_spec.specs.rasta_core.Outbox.{posted}
 use Rattle.simulator_spec.specs.object_host.Host.{fallen, keeping, risen}
 use Rattle.simulator_spec.specs.object_host.Hosted.{new_host}
-use Rattle.simulator_spec.specs.object_host.Step.{after_refusal, closing_behind, going_on, posting, posting_all, violating, answering, initial_status, initialising, commanding, following, acting, acting_all, received, hearing, paying, beginning, given, beating, host_step}
+use Rattle.simulator_spec.specs.object_host.Step.{posting, posting_all, violating, answering, initial_status, initialising, commanding, following, acting, acting_all, received, hearing, paying, beginning, given, beating, host_step}
 use Rattle.simulator_spec.specs.bit_row.Bits.{places_below, places, number_below, number}
 use Rattle.simulator_spec.specs.ixl_spec.Table.{at}
 use Rattle.simulator_spec.specs.ixl_client.Client.{new_client}
 use Rattle.simulator_spec.specs.ixl_client.ClientSoFar.{calling}
 use Rattle.simulator_spec.specs.ixl_client.Meaning.{meaning}
-use Rattle.simulator_spec.specs.ixl_client.Step.{fallen as client_fallen, posting as client_posting, rising, following as client_following, acting as client_acting, acting_all as client_acting_all, clocked, closing_behind as client_closing_behind, hearing as client_hearing, commanding as client_commanding, ticking as client_ticking}
+use Rattle.simulator_spec.specs.ixl_client.Step.{fallen as client_fallen, posting as client_posting, rising, following as client_following, acting as client_acting, acting_all as client_acting_all, clocked, hearing as client_hearing, commanding as client_commanding, ticking as client_ticking}
 use Rattle.simulator_spec.specs.ixl_spec.Commands.{locking_refusal, moved_at_once, refusal as refused, obeyed}
 use Rattle.simulator_spec.specs.ixl_spec.Rules.{withdrawing, ending_authority, freeing_next, freeing_by_passage, freeing_by_cancel, moving_one, moving, proceeding}
-use Rattle.simulator_spec.specs.ixl_spec.Step.{all_clocked, all_closing, known_signal_closing, known_point_closing, detector_closing, noting, known_signal_hearing, known_point_hearing, looking_by, detector_hearing, watching, node_of, node_hearing, given as ixl_given, known_signal_ticking, known_point_ticking, detector_ticking, ticked, stepped}
+use Rattle.simulator_spec.specs.ixl_spec.Step.{all_clocked, known_signal_hearing, known_point_hearing, looking_by, detector_hearing, watching, node_of, node_hearing, given as ixl_given, known_signal_ticking, known_point_ticking, detector_ticking, ticked, stepped}
 use Rattle.simulator_spec.specs.ixl_spec.StepSoFar.{known_signal_after, giving_aspect, known_point_after, giving_move, detector_after, at_route}
 use Rattle.simulator_spec.specs.ixl_spec.View.{is_clear, is_occupied, is_known, is_at_known_stop}
 use Rattle.simulator_spec.specs.First.{new_ixl, world_at}
@@ -51,11 +51,11 @@ unfolding world_at happens passed refusal refusal_of_time controller_later
 clock at = record { allowed = (refl, tt); is_so = refl; right = refl; wrong = refl }
 
 pub nobody : (at : Port) → TellsNobody at
-unfolding world_at happens refusal detector_stepped stepped_at controller_after sent_by_controller new_host keeping host_step going_on closing_behind after_refusal beginning given fallen paying beating settled
+unfolding world_at happens refusal detector_stepped stepped_at controller_after sent_by_controller new_host keeping host_step beginning given fallen paying beating settled
 nobody at = record { allowed = refl; is_so = refl; right = refl; wrong = refl }
 
 pub old : (at : Port) → OldContacts at
-unfolding world_at happens refusal detector_stepped stepped_at controller_after controller_anew sent_by_controller new_host keeping host_step going_on closing_behind after_refusal beginning given fallen paying beating settled host_after
+unfolding world_at happens refusal detector_stepped stepped_at controller_after controller_anew sent_by_controller new_host keeping host_step beginning given fallen paying beating settled host_after
 old at = record { allowed = (refl, (refl, tt)); is_so = refl; right = refl; wrong = refl }
 
 pub came : (at : Port) → KeepsWhatCame at
@@ -102,7 +102,7 @@ leads at (first ∷ others) world =
 
 -- the request is accepted
 is_accepted : (at : Port) → IsAccepted at
-unfolding resumed padding block_words sequence after_block after_blocks digest code intact payload fields text pdu_writing text_of opening_of disconnection_of nothing_of item_of items_to_end items_of body_of pdu_read pdu_reading telegram_writing kind_at name_spelled aspect_in message_in telegram_in telegram_reading created opens opening link_ticking closing_by sending_item acceptance answer_to_send hearing_bytes receiving settled deadline alive_until quiet_until state_at is_up_at header_of pdu_of sending telling limited entered link_beating giving closing link_beginning requesting meeting judging granting joining ahead behind age still_waiting taking repeated retagged repeating link_answering missing handing bringing in_turn admitting testing connected asking resting by_state link_hearing posted fallen keeping risen new_host posting posting_all violating answering initial_status initialising commanding following acting acting_all received hearing paying beginning given beating host_step going_on closing_behind after_refusal places_below places number_below number at new_client calling meaning client_fallen client_posting rising client_following client_acting client_acting_all clocked client_hearing client_commanding client_ticking locking_refusal refused obeyed moved_at_once withdrawing ending_authority freeing_next freeing_by_passage freeing_by_cancel moving_one moving proceeding all_clocked all_closing known_signal_closing known_point_closing detector_closing noting client_closing_behind known_signal_hearing known_point_hearing looking_by detector_hearing watching node_of node_hearing ixl_given known_signal_ticking known_point_ticking detector_ticking ticked stepped known_signal_after giving_aspect known_point_after giving_move detector_after at_route is_clear is_occupied is_known is_at_known_stop new_ixl world_at detector_stepped happens interlocking_stepped passed point_stepped signal_stepped stepped_at refusal refusal_of_time controller_after controller_anew controller_later sent_by_controller held_of sending_all sending_one host_after
+unfolding resumed padding block_words sequence after_block after_blocks digest code intact payload fields text pdu_writing text_of opening_of disconnection_of nothing_of item_of items_to_end items_of body_of pdu_read pdu_reading telegram_writing kind_at name_spelled aspect_in message_in telegram_in telegram_reading created opens opening link_ticking closing_by sending_item acceptance answer_to_send hearing_bytes receiving settled deadline alive_until quiet_until state_at is_up_at header_of pdu_of sending telling limited entered link_beating giving closing link_beginning requesting meeting judging granting joining ahead behind age still_waiting taking repeated retagged repeating link_answering missing handing bringing in_turn admitting testing connected asking resting by_state link_hearing posted fallen keeping risen new_host posting posting_all violating answering initial_status initialising commanding following acting acting_all received hearing paying beginning given beating host_step places_below places number_below number at new_client calling meaning client_fallen client_posting rising client_following client_acting client_acting_all clocked client_hearing client_commanding client_ticking locking_refusal refused obeyed moved_at_once withdrawing ending_authority freeing_next freeing_by_passage freeing_by_cancel moving_one moving proceeding all_clocked known_signal_hearing known_point_hearing looking_by detector_hearing watching node_of node_hearing ixl_given known_signal_ticking known_point_ticking detector_ticking ticked stepped known_signal_after giving_aspect known_point_after giving_move detector_after at_route is_clear is_occupied is_known is_at_known_stop new_ixl world_at detector_stepped happens interlocking_stepped passed point_stepped signal_stepped stepped_at refusal refusal_of_time controller_after controller_anew controller_later sent_by_controller held_of sending_all sending_one host_after
 is_accepted at = record { none_closed = refl; passes = refl }
 
 abbrev after_request : List Move → List Move
@@ -135,21 +135,21 @@ unfolding with_stop
 with_stop_so at = ap (λ (moves : List Move). events_of at moves (short_begun at)) stop_moves ∙ events_on at stop_behind (is_accepted at)
 
 one_there : (at : Port) → held_of short_table (authorised at).interlocking (authorised at).frozen ≡ the_pair ∷ []
-unfolding resumed requested authorised padding block_words sequence after_block after_blocks digest code intact payload fields text pdu_writing text_of opening_of disconnection_of nothing_of item_of items_to_end items_of body_of pdu_read pdu_reading telegram_writing kind_at name_spelled aspect_in message_in telegram_in telegram_reading created opens opening link_ticking closing_by sending_item acceptance answer_to_send hearing_bytes receiving settled deadline alive_until quiet_until state_at is_up_at header_of pdu_of sending telling limited entered link_beating giving closing link_beginning requesting meeting judging granting joining ahead behind age still_waiting taking repeated retagged repeating link_answering missing handing bringing in_turn admitting testing connected asking resting by_state link_hearing posted fallen keeping risen new_host posting posting_all violating answering initial_status initialising commanding following acting acting_all received hearing paying beginning given beating host_step going_on closing_behind after_refusal places_below places number_below number at new_client calling meaning client_fallen client_posting rising client_following client_acting client_acting_all clocked client_hearing client_commanding client_ticking locking_refusal refused obeyed moved_at_once withdrawing ending_authority freeing_next freeing_by_passage freeing_by_cancel moving_one moving proceeding all_clocked all_closing known_signal_closing known_point_closing detector_closing noting client_closing_behind known_signal_hearing known_point_hearing looking_by detector_hearing watching node_of node_hearing ixl_given known_signal_ticking known_point_ticking detector_ticking ticked stepped known_signal_after giving_aspect known_point_after giving_move detector_after at_route is_clear is_occupied is_known is_at_known_stop new_ixl world_at detector_stepped happens interlocking_stepped passed point_stepped signal_stepped stepped_at refusal refusal_of_time controller_after controller_anew controller_later sent_by_controller held_of sending_all sending_one host_after
+unfolding resumed requested authorised padding block_words sequence after_block after_blocks digest code intact payload fields text pdu_writing text_of opening_of disconnection_of nothing_of item_of items_to_end items_of body_of pdu_read pdu_reading telegram_writing kind_at name_spelled aspect_in message_in telegram_in telegram_reading created opens opening link_ticking closing_by sending_item acceptance answer_to_send hearing_bytes receiving settled deadline alive_until quiet_until state_at is_up_at header_of pdu_of sending telling limited entered link_beating giving closing link_beginning requesting meeting judging granting joining ahead behind age still_waiting taking repeated retagged repeating link_answering missing handing bringing in_turn admitting testing connected asking resting by_state link_hearing posted fallen keeping risen new_host posting posting_all violating answering initial_status initialising commanding following acting acting_all received hearing paying beginning given beating host_step places_below places number_below number at new_client calling meaning client_fallen client_posting rising client_following client_acting client_acting_all clocked client_hearing client_commanding client_ticking locking_refusal refused obeyed moved_at_once withdrawing ending_authority freeing_next freeing_by_passage freeing_by_cancel moving_one moving proceeding all_clocked known_signal_hearing known_point_hearing looking_by detector_hearing watching node_of node_hearing ixl_given known_signal_ticking known_point_ticking detector_ticking ticked stepped known_signal_after giving_aspect known_point_after giving_move detector_after at_route is_clear is_occupied is_known is_at_known_stop new_ixl world_at detector_stepped happens interlocking_stepped passed point_stepped signal_stepped stepped_at refusal refusal_of_time controller_after controller_anew controller_later sent_by_controller held_of sending_all sending_one host_after
 one_there at = refl
 
 holds_one : (at : Port) → held_of short_table (played at to_authority (short_begun at)).interlocking (played at to_authority (short_begun at)).frozen ≡ the_pair ∷ []
 holds_one at = ap (λ (w : WorldState). held_of short_table w.interlocking w.frozen) (authority_so at) ∙ one_there at
 
 still_there : (at : Port) → held_of short_table (played at another_behind (authorised at)).interlocking (played at another_behind (authorised at)).frozen ≡ the_pair ∷ []
-unfolding resumed requested authorised padding block_words sequence after_block after_blocks digest code intact payload fields text pdu_writing text_of opening_of disconnection_of nothing_of item_of items_to_end items_of body_of pdu_read pdu_reading telegram_writing kind_at name_spelled aspect_in message_in telegram_in telegram_reading created opens opening link_ticking closing_by sending_item acceptance answer_to_send hearing_bytes receiving settled deadline alive_until quiet_until state_at is_up_at header_of pdu_of sending telling limited entered link_beating giving closing link_beginning requesting meeting judging granting joining ahead behind age still_waiting taking repeated retagged repeating link_answering missing handing bringing in_turn admitting testing connected asking resting by_state link_hearing posted fallen keeping risen new_host posting posting_all violating answering initial_status initialising commanding following acting acting_all received hearing paying beginning given beating host_step going_on closing_behind after_refusal places_below places number_below number at new_client calling meaning client_fallen client_posting rising client_following client_acting client_acting_all clocked client_hearing client_commanding client_ticking locking_refusal refused obeyed moved_at_once withdrawing ending_authority freeing_next freeing_by_passage freeing_by_cancel moving_one moving proceeding all_clocked all_closing known_signal_closing known_point_closing detector_closing noting client_closing_behind known_signal_hearing known_point_hearing looking_by detector_hearing watching node_of node_hearing ixl_given known_signal_ticking known_point_ticking detector_ticking ticked stepped known_signal_after giving_aspect known_point_after giving_move detector_after at_route is_clear is_occupied is_known is_at_known_stop new_ixl world_at detector_stepped happens interlocking_stepped passed point_stepped signal_stepped stepped_at refusal refusal_of_time controller_after controller_anew controller_later sent_by_controller held_of sending_all sending_one host_after
+unfolding resumed requested authorised padding block_words sequence after_block after_blocks digest code intact payload fields text pdu_writing text_of opening_of disconnection_of nothing_of item_of items_to_end items_of body_of pdu_read pdu_reading telegram_writing kind_at name_spelled aspect_in message_in telegram_in telegram_reading created opens opening link_ticking closing_by sending_item acceptance answer_to_send hearing_bytes receiving settled deadline alive_until quiet_until state_at is_up_at header_of pdu_of sending telling limited entered link_beating giving closing link_beginning requesting meeting judging granting joining ahead behind age still_waiting taking repeated retagged repeating link_answering missing handing bringing in_turn admitting testing connected asking resting by_state link_hearing posted fallen keeping risen new_host posting posting_all violating answering initial_status initialising commanding following acting acting_all received hearing paying beginning given beating host_step places_below places number_below number at new_client calling meaning client_fallen client_posting rising client_following client_acting client_acting_all clocked client_hearing client_commanding client_ticking locking_refusal refused obeyed moved_at_once withdrawing ending_authority freeing_next freeing_by_passage freeing_by_cancel moving_one moving proceeding all_clocked known_signal_hearing known_point_hearing looking_by detector_hearing watching node_of node_hearing ixl_given known_signal_ticking known_point_ticking detector_ticking ticked stepped known_signal_after giving_aspect known_point_after giving_move detector_after at_route is_clear is_occupied is_known is_at_known_stop new_ixl world_at detector_stepped happens interlocking_stepped passed point_stepped signal_stepped stepped_at refusal refusal_of_time controller_after controller_anew controller_later sent_by_controller held_of sending_all sending_one host_after
 still_there at = refl
 
 holds_still : (at : Port) → held_of short_table (played at to_another (short_begun at)).interlocking (played at to_another (short_begun at)).frozen ≡ the_pair ∷ []
 holds_still at = ap (λ (w : WorldState). held_of short_table w.interlocking w.frozen) (another_so at) ∙ still_there at
 
 none_there : (at : Port) → held_of short_table (played at another_behind (authorised at)).interlocking (authorised at).frozen ≡ []
-unfolding resumed requested authorised padding block_words sequence after_block after_blocks digest code intact payload fields text pdu_writing text_of opening_of disconnection_of nothing_of item_of items_to_end items_of body_of pdu_read pdu_reading telegram_writing kind_at name_spelled aspect_in message_in telegram_in telegram_reading created opens opening link_ticking closing_by sending_item acceptance answer_to_send hearing_bytes receiving settled deadline alive_until quiet_until state_at is_up_at header_of pdu_of sending telling limited entered link_beating giving closing link_beginning requesting meeting judging granting joining ahead behind age still_waiting taking repeated retagged repeating link_answering missing handing bringing in_turn admitting testing connected asking resting by_state link_hearing posted fallen keeping risen new_host posting posting_all violating answering initial_status initialising commanding following acting acting_all received hearing paying beginning given beating host_step going_on closing_behind after_refusal places_below places number_below number at new_client calling meaning client_fallen client_posting rising client_following client_acting client_acting_all clocked client_hearing client_commanding client_ticking locking_refusal refused obeyed moved_at_once withdrawing ending_authority freeing_next freeing_by_passage freeing_by_cancel moving_one moving proceeding all_clocked all_closing known_signal_closing known_point_closing detector_closing noting client_closing_behind known_signal_hearing known_point_hearing looking_by detector_hearing watching node_of node_hearing ixl_given known_signal_ticking known_point_ticking detector_ticking ticked stepped known_signal_after giving_aspect known_point_after giving_move detector_after at_route is_clear is_occupied is_known is_at_known_stop new_ixl world_at detector_stepped happens interlocking_stepped passed point_stepped signal_stepped stepped_at refusal refusal_of_time controller_after controller_anew controller_later sent_by_controller held_of sending_all sending_one host_after
+unfolding resumed requested authorised padding block_words sequence after_block after_blocks digest code intact payload fields text pdu_writing text_of opening_of disconnection_of nothing_of item_of items_to_end items_of body_of pdu_read pdu_reading telegram_writing kind_at name_spelled aspect_in message_in telegram_in telegram_reading created opens opening link_ticking closing_by sending_item acceptance answer_to_send hearing_bytes receiving settled deadline alive_until quiet_until state_at is_up_at header_of pdu_of sending telling limited entered link_beating giving closing link_beginning requesting meeting judging granting joining ahead behind age still_waiting taking repeated retagged repeating link_answering missing handing bringing in_turn admitting testing connected asking resting by_state link_hearing posted fallen keeping risen new_host posting posting_all violating answering initial_status initialising commanding following acting acting_all received hearing paying beginning given beating host_step places_below places number_below number at new_client calling meaning client_fallen client_posting rising client_following client_acting client_acting_all clocked client_hearing client_commanding client_ticking locking_refusal refused obeyed moved_at_once withdrawing ending_authority freeing_next freeing_by_passage freeing_by_cancel moving_one moving proceeding all_clocked known_signal_hearing known_point_hearing looking_by detector_hearing watching node_of node_hearing ixl_given known_signal_ticking known_point_ticking detector_ticking ticked stepped known_signal_after giving_aspect known_point_after giving_move detector_after at_route is_clear is_occupied is_known is_at_known_stop new_ixl world_at detector_stepped happens interlocking_stepped passed point_stepped signal_stepped stepped_at refusal refusal_of_time controller_after controller_anew controller_later sent_by_controller held_of sending_all sending_one host_after
 none_there at = refl
 
 holds_none : (at : Port) → held_of short_table (played at to_another (short_begun at)).interlocking (played at to_authority (short_begun at)).frozen ≡ []
@@ -168,21 +168,21 @@ frozen at = record {
 }
 
 stop_there : (at : Port) → map shown_by (played at stop_behind (authorised at)).signals ≡ aspects.Stop ∷ []
-unfolding resumed requested authorised padding block_words sequence after_block after_blocks digest code intact payload fields text pdu_writing text_of opening_of disconnection_of nothing_of item_of items_to_end items_of body_of pdu_read pdu_reading telegram_writing kind_at name_spelled aspect_in message_in telegram_in telegram_reading created opens opening link_ticking closing_by sending_item acceptance answer_to_send hearing_bytes receiving settled deadline alive_until quiet_until state_at is_up_at header_of pdu_of sending telling limited entered link_beating giving closing link_beginning requesting meeting judging granting joining ahead behind age still_waiting taking repeated retagged repeating link_answering missing handing bringing in_turn admitting testing connected asking resting by_state link_hearing posted fallen keeping risen new_host posting posting_all violating answering initial_status initialising commanding following acting acting_all received hearing paying beginning given beating host_step going_on closing_behind after_refusal places_below places number_below number at new_client calling meaning client_fallen client_posting rising client_following client_acting client_acting_all clocked client_hearing client_commanding client_ticking locking_refusal refused obeyed moved_at_once withdrawing ending_authority freeing_next freeing_by_passage freeing_by_cancel moving_one moving proceeding all_clocked all_closing known_signal_closing known_point_closing detector_closing noting client_closing_behind known_signal_hearing known_point_hearing looking_by detector_hearing watching node_of node_hearing ixl_given known_signal_ticking known_point_ticking detector_ticking ticked stepped known_signal_after giving_aspect known_point_after giving_move detector_after at_route is_clear is_occupied is_known is_at_known_stop new_ixl world_at detector_stepped happens interlocking_stepped passed point_stepped signal_stepped stepped_at refusal refusal_of_time controller_after controller_anew controller_later sent_by_controller held_of sending_all sending_one host_after
+unfolding resumed requested authorised padding block_words sequence after_block after_blocks digest code intact payload fields text pdu_writing text_of opening_of disconnection_of nothing_of item_of items_to_end items_of body_of pdu_read pdu_reading telegram_writing kind_at name_spelled aspect_in message_in telegram_in telegram_reading created opens opening link_ticking closing_by sending_item acceptance answer_to_send hearing_bytes receiving settled deadline alive_until quiet_until state_at is_up_at header_of pdu_of sending telling limited entered link_beating giving closing link_beginning requesting meeting judging granting joining ahead behind age still_waiting taking repeated retagged repeating link_answering missing handing bringing in_turn admitting testing connected asking resting by_state link_hearing posted fallen keeping risen new_host posting posting_all violating answering initial_status initialising commanding following acting acting_all received hearing paying beginning given beating host_step places_below places number_below number at new_client calling meaning client_fallen client_posting rising client_following client_acting client_acting_all clocked client_hearing client_commanding client_ticking locking_refusal refused obeyed moved_at_once withdrawing ending_authority freeing_next freeing_by_passage freeing_by_cancel moving_one moving proceeding all_clocked known_signal_hearing known_point_hearing looking_by detector_hearing watching node_of node_hearing ixl_given known_signal_ticking known_point_ticking detector_ticking ticked stepped known_signal_after giving_aspect known_point_after giving_move detector_after at_route is_clear is_occupied is_known is_at_known_stop new_ixl world_at detector_stepped happens interlocking_stepped passed point_stepped signal_stepped stepped_at refusal refusal_of_time controller_after controller_anew controller_later sent_by_controller held_of sending_all sending_one host_after
 stop_there at = refl
 
 shows_stop : (at : Port) → map shown_by (played at to_stop (short_begun at)).signals ≡ aspects.Stop ∷ []
 shows_stop at = ap (λ (w : WorldState). map shown_by w.signals) (stop_so at) ∙ stop_there at
 
 all_lines_there : (at : Port) → shown_by_line at (lines_after signal_behaviour lamp_line (life_in (small at) short_table (signal_at 0) (stop_events at) (first_life tt)).came (signal_begun at)) ≡ aspects.Stop
-unfolding resumed requested authorised padding block_words sequence after_block after_blocks digest code intact payload fields text pdu_writing text_of opening_of disconnection_of nothing_of item_of items_to_end items_of body_of pdu_read pdu_reading telegram_writing kind_at name_spelled aspect_in message_in telegram_in telegram_reading created opens opening link_ticking closing_by sending_item acceptance answer_to_send hearing_bytes receiving settled deadline alive_until quiet_until state_at is_up_at header_of pdu_of sending telling limited entered link_beating giving closing link_beginning requesting meeting judging granting joining ahead behind age still_waiting taking repeated retagged repeating link_answering missing handing bringing in_turn admitting testing connected asking resting by_state link_hearing posted fallen keeping risen new_host posting posting_all violating answering initial_status initialising commanding following acting acting_all received hearing paying beginning given beating host_step going_on closing_behind after_refusal places_below places number_below number at new_client calling meaning client_fallen client_posting rising client_following client_acting client_acting_all clocked client_hearing client_commanding client_ticking locking_refusal refused obeyed moved_at_once withdrawing ending_authority freeing_next freeing_by_passage freeing_by_cancel moving_one moving proceeding all_clocked all_closing known_signal_closing known_point_closing detector_closing noting client_closing_behind known_signal_hearing known_point_hearing looking_by detector_hearing watching node_of node_hearing ixl_given known_signal_ticking known_point_ticking detector_ticking ticked stepped known_signal_after giving_aspect known_point_after giving_move detector_after at_route is_clear is_occupied is_known is_at_known_stop new_ixl world_at detector_stepped happens interlocking_stepped passed point_stepped signal_stepped stepped_at refusal refusal_of_time controller_after controller_anew controller_later sent_by_controller held_of sending_all sending_one host_after
+unfolding resumed requested authorised padding block_words sequence after_block after_blocks digest code intact payload fields text pdu_writing text_of opening_of disconnection_of nothing_of item_of items_to_end items_of body_of pdu_read pdu_reading telegram_writing kind_at name_spelled aspect_in message_in telegram_in telegram_reading created opens opening link_ticking closing_by sending_item acceptance answer_to_send hearing_bytes receiving settled deadline alive_until quiet_until state_at is_up_at header_of pdu_of sending telling limited entered link_beating giving closing link_beginning requesting meeting judging granting joining ahead behind age still_waiting taking repeated retagged repeating link_answering missing handing bringing in_turn admitting testing connected asking resting by_state link_hearing posted fallen keeping risen new_host posting posting_all violating answering initial_status initialising commanding following acting acting_all received hearing paying beginning given beating host_step places_below places number_below number at new_client calling meaning client_fallen client_posting rising client_following client_acting client_acting_all clocked client_hearing client_commanding client_ticking locking_refusal refused obeyed moved_at_once withdrawing ending_authority freeing_next freeing_by_passage freeing_by_cancel moving_one moving proceeding all_clocked known_signal_hearing known_point_hearing looking_by detector_hearing watching node_of node_hearing ixl_given known_signal_ticking known_point_ticking detector_ticking ticked stepped known_signal_after giving_aspect known_point_after giving_move detector_after at_route is_clear is_occupied is_known is_at_known_stop new_ixl world_at detector_stepped happens interlocking_stepped passed point_stepped signal_stepped stepped_at refusal refusal_of_time controller_after controller_anew controller_later sent_by_controller held_of sending_all sending_one host_after
 all_lines_there at = refl
 
 by_all_lines : (at : Port) → shown_by_line at (lines_after signal_behaviour lamp_line (came_to_it at) (signal_begun at)) ≡ aspects.Stop
 by_all_lines at = ap (λ (events : List Event). shown_by_line at (lines_after signal_behaviour lamp_line (life_in (small at) short_table (signal_at 0) events (first_life tt)).came (signal_begun at))) (with_stop_so at) ∙ all_lines_there at
 
 lines_of_ticks_there : (at : Port) → shown_by_line at (lines_of_ticks signal_behaviour lamp_line (life_in (small at) short_table (signal_at 0) (stop_events at) (first_life tt)).came (signal_begun at)) ≡ aspects.Proceed
-unfolding resumed requested authorised padding block_words sequence after_block after_blocks digest code intact payload fields text pdu_writing text_of opening_of disconnection_of nothing_of item_of items_to_end items_of body_of pdu_read pdu_reading telegram_writing kind_at name_spelled aspect_in message_in telegram_in telegram_reading created opens opening link_ticking closing_by sending_item acceptance answer_to_send hearing_bytes receiving settled deadline alive_until quiet_until state_at is_up_at header_of pdu_of sending telling limited entered link_beating giving closing link_beginning requesting meeting judging granting joining ahead behind age still_waiting taking repeated retagged repeating link_answering missing handing bringing in_turn admitting testing connected asking resting by_state link_hearing posted fallen keeping risen new_host posting posting_all violating answering initial_status initialising commanding following acting acting_all received hearing paying beginning given beating host_step going_on closing_behind after_refusal places_below places number_below number at new_client calling meaning client_fallen client_posting rising client_following client_acting client_acting_all clocked client_hearing client_commanding client_ticking locking_refusal refused obeyed moved_at_once withdrawing ending_authority freeing_next freeing_by_passage freeing_by_cancel moving_one moving proceeding all_clocked all_closing known_signal_closing known_point_closing detector_closing noting client_closing_behind known_signal_hearing known_point_hearing looking_by detector_hearing watching node_of node_hearing ixl_given known_signal_ticking known_point_ticking detector_ticking ticked stepped known_signal_after giving_aspect known_point_after giving_move detector_after at_route is_clear is_occupied is_known is_at_known_stop new_ixl world_at detector_stepped happens interlocking_stepped passed point_stepped signal_stepped stepped_at refusal refusal_of_time controller_after controller_anew controller_later sent_by_controller held_of sending_all sending_one host_after
+unfolding resumed requested authorised padding block_words sequence after_block after_blocks digest code intact payload fields text pdu_writing text_of opening_of disconnection_of nothing_of item_of items_to_end items_of body_of pdu_read pdu_reading telegram_writing kind_at name_spelled aspect_in message_in telegram_in telegram_reading created opens opening link_ticking closing_by sending_item acceptance answer_to_send hearing_bytes receiving settled deadline alive_until quiet_until state_at is_up_at header_of pdu_of sending telling limited entered link_beating giving closing link_beginning requesting meeting judging granting joining ahead behind age still_waiting taking repeated retagged repeating link_answering missing handing bringing in_turn admitting testing connected asking resting by_state link_hearing posted fallen keeping risen new_host posting posting_all violating answering initial_status initialising commanding following acting acting_all received hearing paying beginning given beating host_step places_below places number_below number at new_client calling meaning client_fallen client_posting rising client_following client_acting client_acting_all clocked client_hearing client_commanding client_ticking locking_refusal refused obeyed moved_at_once withdrawing ending_authority freeing_next freeing_by_passage freeing_by_cancel moving_one moving proceeding all_clocked known_signal_hearing known_point_hearing looking_by detector_hearing watching node_of node_hearing ixl_given known_signal_ticking known_point_ticking detector_ticking ticked stepped known_signal_after giving_aspect known_point_after giving_move detector_after at_route is_clear is_occupied is_known is_at_known_stop new_ixl world_at detector_stepped happens interlocking_stepped passed point_stepped signal_stepped stepped_at refusal refusal_of_time controller_after controller_anew controller_later sent_by_controller held_of sending_all sending_one host_after
 lines_of_ticks_there at = refl
 
 by_lines_of_ticks : (at : Port) → shown_by_line at (lines_of_ticks signal_behaviour lamp_line (came_to_it at) (signal_begun at)) ≡ aspects.Proceed

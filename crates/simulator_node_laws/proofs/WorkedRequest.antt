@@ -17,8 +17,8 @@ use Rattle.simulator_spec.specs.ixl_spec.Commands.{closed_refusal, commanded_by,
 use Rattle.simulator_spec.specs.ixl_spec.Operations.{route_thing, signal_thing}
 use Rattle.simulator_spec.specs.ixl_spec.Rules.{count, ruled}
 use Rattle.simulator_spec.specs.ixl_spec.State.{IxlState, RouteState}
-use Rattle.simulator_spec.specs.ixl_spec.Step.{Commands, all_clocked, all_closing, given, noting, stepped, ticked, watching}
-use Rattle.simulator_spec.specs.ixl_spec.StepSoFar.{StepSoFar, begun_with, empty_outbox, over}
+use Rattle.simulator_spec.specs.ixl_spec.Step.{Commands, all_clocked, given, stepped, ticked, watching}
+use Rattle.simulator_spec.specs.ixl_spec.StepSoFar.{begun_with, empty_outbox, over}
 use Rattle.simulator_spec.specs.ixl_spec.Table.{Row}
 use Rattle.simulator_spec.specs.ixl_spec.View.{is_holding, is_set}
 use Rattle.simulator_spec.specs.ixl_spec.declared.command.Command.{Command}
@@ -81,23 +81,18 @@ stop_behind = drop 13 to_stop
 abbrev pub short_row : Row
 short_row = record { entry = 0; aspect = aspects.Proceed; sections = []; needs = []; approach = []; extra = [] }
 
--- a step as its input finds it
-abbrev pub comes_to : ℕ → IxlState → StepSoFar
-comes_to now ixl = all_closing now (record (begun_with ixl empty_outbox) { ixl = all_clocked now ixl })
-
 -- what becomes of the world by the answer to the request
 unfoldable pub requested : Port → Option Refusal → WorldState → WorldState
 requested at cause world =
     let now = reading_of world.interlocking.clock
-    in let begun = comes_to now world.interlocking.ixl
-    in let heard = moved_at_once now cause the_command (record begun { ixl = commanded_by now cause the_command begun.ixl })
-    in let seen = over (noting now short_table) (count short_table) (over (watching short_table) (count short_table) heard)
-    in let done = ticked now (Commands the_command) (ruled now short_table seen)
+    in let clocked = all_clocked now world.interlocking.ixl
+    in let heard = moved_at_once now cause the_command (record (begun_with world.interlocking.ixl empty_outbox) { ixl = commanded_by now cause the_command clocked })
+    in let done = ticked now (Commands the_command) (ruled now short_table (over (watching short_table) (count short_table) heard))
     in let sending = sending_all (small at) world.time done.outbox.datagrams (record { connections = world.interlocking.connections; sent = world.sent })
     in record world { interlocking = record world.interlocking { ixl = done.ixl; connections = sending.connections }; sent = sending.sent }
 
 happens_by_answer : (at : Port) (world : WorldState) →
-    happens (small at) short_table the_request world ≡ requested at (refused (reading_of world.interlocking.clock) short_table the_command (comes_to (reading_of world.interlocking.clock) world.interlocking.ixl).ixl) world
+    happens (small at) short_table the_request world ≡ requested at (refused (reading_of world.interlocking.clock) short_table the_command (all_clocked (reading_of world.interlocking.clock) world.interlocking.ixl)) world
 unfolding requested happens interlocking_stepped stepped given
 happens_by_answer at world = refl
 
@@ -142,7 +137,7 @@ abbrev pub hearing_now : Port → ℕ
 hearing_now at = reading_of (resumed at).interlocking.clock
 
 abbrev pub hearing_it : Port → IxlState
-hearing_it at = (comes_to (hearing_now at) (resumed at).interlocking.ixl).ixl
+hearing_it at = all_clocked (hearing_now at) (resumed at).interlocking.ixl
 
 -- it is accepted
 unfoldable pub authorised : Port → WorldState

@@ -1,5 +1,5 @@
 -- Wrong definitions, each with a small run in which what it tells isn't so.
-use Rattle.std.specs.Prelude.{◌≡◌, ℕ, zero, suc, List, [], ◌∷◌, ◌++◌, codes, map, false, None, is_none, if◌then◌else◌}
+use Rattle.std.specs.Prelude.{◌≡◌, ℕ, zero, suc, List, [], ◌∷◌, ◌++◌, codes, map, None, is_none, if◌then◌else◌}
 use Rattle.simulator_spec.specs.sci_telegram.declared.message.Aspect.{Aspect}
 use Rattle.simulator_spec.specs.sci_telegram.declared.message.Aspect.TheVariants as aspects
 use Rattle.simulator_spec.specs.sci_telegram.declared.message.Occupancy.{Occupancy}
@@ -53,7 +53,7 @@ the_signal at = record { name = codes "S"; id = 11; at = at }
 -- a signal at some port, a point, and a detector that reports one section
 abbrev pub small : Port → Site
 small at = record {
-  station = record { name = codes "ST"; id = 1; key = None; trains = false };
+  station = record { name = codes "ST"; id = 1; key = None };
   sections = codes "G" ∷ [];
   tracks = [];
   points = the_point ∷ [];
@@ -71,7 +71,6 @@ small_table = record {
   point_sections = 0 ∷ [];
   reporters = (0, 0) ∷ [];
   detectors = (0 ∷ []) ∷ [];
-  is_strict = false;
 }
 
 -- the point lies at left, and the section is clear

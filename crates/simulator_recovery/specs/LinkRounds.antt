@@ -4,7 +4,6 @@ use Rattle.rasta_core_recovery.specs.Rounds.{Flow}
 use Rattle.rasta_core_recovery.specs.Work.{HasRoom, IsAtWork, work_round}
 use Rattle.simulator_spec.specs.layout.Entries.{Site}
 use Rattle.simulator_spec.specs.rasta_core.Clock.{settled}
-use Rattle.simulator_spec.specs.rasta_core.Each.{Each}
 use Rattle.simulator_spec.specs.rasta_core.Ends.{reading_of}
 use Rattle.simulator_spec.specs.rasta_core.Events.{Event as LinkEvent}
 use Rattle.simulator_spec.specs.rasta_core.Links.{Links, LinksEvent, happened_to, of_link, run_links, run_on, seen}
@@ -18,7 +17,6 @@ use Rattle.simulator_spec.specs.Nodes.{nodes}
 use Rattle.simulator_spec.specs.State.{WorldState}
 use Rattle.simulator_spec.specs.Tried.{Played, after, arrival_in, refusal_of}
 use Rattle.simulator_link_laws.specs.Events.{events_of}
-use Rattle.simulator_recovery.specs.Closes.{IsCalmOn}
 use Rattle.simulator_recovery.specs.Rounds.{all_tried}
 
 -- ---- what is tried, as events of the links
@@ -86,15 +84,11 @@ abbrev pub HaveRoomOn : ℕ → List LinksEvent → Links → Type 0
 HaveRoomOn link [] links = HasRoomOn link links
 HaveRoomOn link (first ∷ others) links = HasRoomOn link links × HaveRoomOn link others (happened_to first links)
 
--- Where trains are kept apart: in this round no end closes this link that isn't caught up any more, and no detector whose window is full.
-abbrev pub IsCalmRound : ℕ → List Event → Flowing → Type 0
-IsCalmRound link between flowing = flowing.state.sited.site.station.trains ≡ true → Each (IsCalmOn flowing.state.sited.site link) (calls_of_round between flowing)
-
--- before each call of good rounds, and after the last; and each of them is calm
+-- before each call of good rounds, and after the last
 abbrev pub StayBelowOn : ℕ → List (List Event) → Flowing → Links → Type 0
 StayBelowOn link [] flowing before = Unit {0}
 StayBelowOn link (between ∷ later) flowing before =
-    (HaveRoomOn link (calls_of_round between flowing) (run_links (time_of_round flowing) before) × IsCalmRound link between flowing)
+    HaveRoomOn link (calls_of_round between flowing) (run_links (time_of_round flowing) before)
     × StayBelowOn link later (all_tried between (round flowing)) (links_behind between flowing before)
 
 -- the same, whatever links they are that are those of the station

@@ -20,7 +20,7 @@ use Rattle.simulator_recovery.specs.Counts.{EachClient}
 
 -- whom the client of a controller of this name speaks with, and of which objects it hears
 abbrev pub peer_for : Protocol → Site → List ℕ → List (List ℕ) → PeerState
-peer_for protocol site name objects = record { protocol = protocol; version = telegram_version site; own_name = site.station.name; name = name; objects = objects; is_strict = site.station.trains }
+peer_for protocol site name objects = record { protocol = protocol; version = telegram_version site; own_name = site.station.name; name = name; objects = objects }
 
 -- the names of the sections that a detector reports
 abbrev pub section_names : Site → DetectorEntry → List (List ℕ)

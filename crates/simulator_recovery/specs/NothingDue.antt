@@ -11,7 +11,7 @@ use Rattle.simulator_spec.specs.ixl_client.ClientSoFar.{Sends}
 use Rattle.simulator_spec.specs.ixl_client.declared.command.Command.TheVariants.{Move}
 use Rattle.simulator_spec.specs.ixl_spec.Due.{AllClear, AllKnown, At, IsSignalReady}
 use Rattle.simulator_spec.specs.ixl_spec.State.{IxlState, RouteState}
-use Rattle.simulator_spec.specs.ixl_spec.Step.{Commands, Datagram, Input, Tick, all_clocked, all_closing, given}
+use Rattle.simulator_spec.specs.ixl_spec.Step.{Commands, Datagram, Input, Tick, all_clocked, given}
 use Rattle.simulator_spec.specs.ixl_spec.StepSoFar.{Point, begun_with, empty_outbox}
 use Rattle.simulator_spec.specs.ixl_spec.Table.{Need, Row, Table}
 use Rattle.simulator_spec.specs.ixl_spec.declared.command.Command.{Command}
@@ -72,12 +72,11 @@ input_of site (event.Tick node) = input_at (node_at site node.0) Tick
 input_of site (event.Deliver node bytes) = input_at (node_at site node.0) (Datagram bytes)
 input_of site _ = None
 
--- What the interlocking knows after the clock and the input of a step, before its rules. Before the input a link is closed that isn't
--- caught up any more.
+-- what the interlocking knows after the clock and the input of a step, before its rules
 abbrev pub known_in_step : Site → Table → Input → WorldState → IxlState
 known_in_step site table input world =
     let now = reading_of world.interlocking.clock
-    in (given now table (key_of site) input (all_closing now (begun_with (all_clocked now world.interlocking.ixl) empty_outbox))).ixl
+    in (given now table (key_of site) input (begun_with (all_clocked now world.interlocking.ixl) empty_outbox)).ixl
 
 -- In the step that an event brings to the interlocking, if it brings one, the aspect of the route is upheld.
 abbrev pub UpholdsAspect : Site → Table → Row → Event → WorldState → Type 0

@@ -1,14 +1,14 @@
 -- What a signal says where it acts on an aspect.
 use Rattle.std.specs.Prelude.{◌≡◌, ℕ, List, ◌∷◌, ◌++◌}
 use Rattle.simulator_spec.specs.sci_telegram.Telegrams.{writing}
-use Rattle.simulator_spec.specs.object_host.Host.{HostSoFar, HostState, LinkCall, Sends, telegram_of, then_do}
-use Rattle.simulator_spec.specs.object_host.Step.{found, given}
+use Rattle.simulator_spec.specs.object_host.Host.{HostSoFar, HostState, LinkCall, Sends, telegram_of}
+use Rattle.simulator_spec.specs.object_host.Step.{beginning, given}
 use Rattle.simulator_spec.specs.object_host.declared.input.Input.{Input}
 use Rattle.simulator_spec.specs.signal_ctl.Signal.{SignalState, indicated_report, signal_behaviour}
 
 -- a step of a signal's host, as far as what comes in it leads
 abbrev pub behind_what_comes : ℕ → Input → HostState SignalState → HostSoFar SignalState
-behind_what_comes now input host = then_do (found signal_behaviour now host) (given signal_behaviour now input)
+behind_what_comes now input host = given signal_behaviour now input (beginning signal_behaviour now host)
 
 -- the item that tells which aspect a signal indicates
 abbrev pub indication : HostState SignalState → List ℕ

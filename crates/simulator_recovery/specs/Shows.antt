@@ -1,5 +1,5 @@
 -- The last aspect that a signal was given, and the lamp that shows it.
-use Rattle.std.specs.Prelude.{◌≡◌, ◌<◌, ℕ, true, List, [], ◌∷◌, Some, slice_get}
+use Rattle.std.specs.Prelude.{◌≡◌, ℕ, List, [], ◌∷◌, Some, slice_get}
 use Rattle.simulator_spec.specs.sci_telegram.declared.message.Aspect.{Aspect}
 use Rattle.simulator_spec.specs.ixl_spec.Due.{At, IsRouteOf}
 use Rattle.simulator_spec.specs.ixl_spec.State.{IxlState, KnownSignalState, RouteState}
@@ -7,11 +7,7 @@ use Rattle.simulator_spec.specs.ixl_spec.Table.{Row, Table}
 use Rattle.simulator_spec.specs.simulator_event.declared.event.Event.{Event}
 use Rattle.simulator_spec.specs.Flow.{Flowing, round}
 use Rattle.simulator_spec.specs.Seen.{shown_by}
-use Rattle.simulator_spec.specs.rasta_core.Clock.{settled}
-use Rattle.simulator_spec.specs.rasta_core.Ends.{reading_of}
-use Rattle.simulator_spec.specs.rasta_core.State.{is_open}
-use Rattle.simulator_spec.specs.signal_ctl.Signal.{SignalState}
-use Rattle.simulator_spec.specs.State.{ClockedControllerState, WorldState}
+use Rattle.simulator_spec.specs.State.{WorldState}
 use Rattle.simulator_recovery.specs.NothingDue.{Proceeds}
 use Rattle.simulator_recovery.specs.Rounds.{all_tried}
 
@@ -27,11 +23,6 @@ StaysGiven place aspect old new = (before after : KnownSignalState) → slice_ge
 -- A lamp shows this aspect.
 abbrev pub Shows : ℕ → Aspect → WorldState → Type 0
 Shows signal aspect world = At world.signals signal (λ controller. shown_by controller ≡ aspect)
-
--- A strict controller of a signal that is in a connection at its clock is caught up there.
-abbrev pub IsCaughtUp : ℕ → WorldState → Type 0
-IsCaughtUp signal world = (controller : ClockedControllerState SignalState) → slice_get world.signals signal ≡ Some controller → is_open (settled (reading_of controller.clock) controller.host.link).phase ≡ true
-    → controller.host.is_strict ≡ true → reading_of controller.clock < controller.host.caught_up_until
 
 -- The route of this number and row of the table proceeds.
 abbrev pub RouteProceeds : Table → IxlState → ℕ → Row → Type 0

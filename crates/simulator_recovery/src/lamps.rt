@@ -25,7 +25,7 @@ ghost use Rattle.simulator_recovery.specs.HandedOver.{HasConfirmed, HasHandedOve
 ghost use Rattle.simulator_recovery.specs.Lamps.{AcceptsCancel, GivesNoMore, HasStopLast, IsAtStop, IsStopTaken, IsWithdrawnFrom, NoneProceeds, and_cancel, as_cancel_comes, stop_rounds};
 ghost use Rattle.simulator_recovery.specs.LinkRounds.{StaysBelowLimit, link_rounds};
 ghost use Rattle.simulator_recovery.specs.Rounds.{HasTime, InGoodRounds, IsWork, all_tried, good_rounds};
-ghost use Rattle.simulator_recovery.specs.Shows.{IsCaughtUp, RouteProceeds, ProceedsThrough, Shows, ShowsThrough, StaysGiven, aspect_rounds};
+ghost use Rattle.simulator_recovery.specs.Shows.{RouteProceeds, ProceedsThrough, Shows, ShowsThrough, StaysGiven, aspect_rounds};
 
 use crate::below::laws_below;
 
@@ -120,11 +120,10 @@ pub fn lamps_fall_behind_a_cancel()
 }
 
 /// A lamp shows what its signal was given: where the link of a signal has handed over from one moment to a later one, and an aspect was the
-/// last one given to the signal at both moments, in the same item, the lamp shows this aspect at the later one, where its controller is
-/// caught up then (`IsCaughtUp`).
+/// last one given to the signal at both moments, in the same item, the lamp shows this aspect at the later one.
 pub(crate) fn lamps_show_what_was_given()
     ensures { (site : Site) (table : Table) (old new : WorldState) (signal : ℕ) (aspect : Aspect) → Once site → IsStation site → IsTableOf site table → IsReached site table old → IsReached site table new
-        → signal < length site.signals → HasHandedOver signal old new → IsCaughtUp signal new → StaysGiven signal aspect old.interlocking.ixl new.interlocking.ixl → Shows signal aspect new }
+        → signal < length site.signals → HasHandedOver signal old new → StaysGiven signal aspect old.interlocking.ixl new.interlocking.ixl → Shows signal aspect new }
 {
     laws_below();
 }

@@ -52,8 +52,7 @@ pub fn good_rounds_are_at_work_on_links()
 
 /// The links of a station come up: after any list of events, and after each good round from the 1562nd on, the link between the
 /// interlocking and each controller is up at both ends, whatever requests and occupancies come between the rounds. So it is
-/// where neither of its ends comes to the limit of PDUs in a connection, and where trains are kept apart neither closes the link for
-/// that meanwhile (`IsCalmRound`).
+/// where neither of its ends comes to the limit of PDUs in a connection.
 pub fn links_come_up()
     ensures { (between : List Event) (later : List (List Event)) (flowing : Flowing) (link : ℕ) → InGoodRounds between later flowing → link < links flowing.state.sited.site → link_rounds ≤ suc (length later)
         → StaysBelowLimit flowing.state.sited.site link later (all_tried between (round flowing))

@@ -10,7 +10,7 @@ ghost use Rattle.simulator_spec.specs.State.{WorldState};
 ghost use Rattle.simulator_spec.specs.ixl_client.Client.{is_available, is_outside};
 ghost use Rattle.simulator_spec.specs.ixl_spec.Due.{Admissible, AllClear, AllKnown, At, FreeByCancel, IsAvailable, IsClear, IsHeldAt, IsHeldWithAuthority, IsReleaseOver, IsRouteOf, IsSignalReady, Known, KnownStop, LetsGo, MoveDue, ProceedDue, StopDue, HoldsPoint};
 ghost use Rattle.simulator_spec.specs.ixl_spec.State.{KnownPointState, RouteState};
-ghost use Rattle.simulator_spec.specs.ixl_spec.Step.{Input, as_found};
+ghost use Rattle.simulator_spec.specs.ixl_spec.Step.{Input, all_clocked};
 ghost use Rattle.simulator_spec.specs.ixl_spec.Table.{Need, Row, Table};
 ghost use Rattle.simulator_spec.specs.ixl_spec.View.{is_set};
 ghost use Rattle.simulator_spec.specs.ixl_spec.declared.command.Command.TheVariants as ixl_commands;
@@ -166,7 +166,7 @@ pub(crate) fn set_routes_go_on_over_rounds()
 /// which no move is out, is known at its side, if its own section is clear and no route with authority holds it (*points*).
 pub(crate) fn accepted_settings_move_their_points()
     ensures admissible { (site : Site) (table : Table) (world : WorldState) (route : RouteId) → answered site table (Request (ixl_commands.Request route)) world ≡ Accepted
-        → Admissible (reading_of world.interlocking.clock) table (as_found (reading_of world.interlocking.clock) world.interlocking.ixl) route.0 }
+        → Admissible (reading_of world.interlocking.clock) table (all_clocked (reading_of world.interlocking.clock) world.interlocking.ixl) route.0 }
     ensures set { (site : Site) (table : Table) (world : WorldState) (route : RouteId) → answered site table (Request (ixl_commands.Request route)) world ≡ Accepted
         → At (happens site table (Request (ixl_commands.Request route)) world).interlocking.ixl.routes route.0 (λ one. Waits one ⊎ HasAspect one) }
     ensures clear { (site : Site) (table : Table) (world : WorldState) (route : RouteId) (row : Row) → slice_get table.rows route.0 ≡ Some row → answered site table (Request (ixl_commands.Request route)) world ≡ Accepted

@@ -22,7 +22,7 @@ ghost use Rattle.simulator_spec.specs.simulator_event.declared.event.Event.{Even
 ghost use Rattle.simulator_spec.specs.simulator_event.declared.event.Event.TheVariants.{Request};
 ghost use Rattle.simulator_spec.specs.simulator_event.declared.reply.Answer.TheVariants.{Accepted};
 ghost use Rattle.simulator_safety.specs.Reached.{IsReached};
-ghost use Rattle.simulator_recovery.specs.Authority.{AreLongClear, HasGivenMore, IsUnseen, authority_rounds, free_rounds};
+ghost use Rattle.simulator_recovery.specs.Authority.{HasGivenMore, IsUnseen, authority_rounds};
 ghost use Rattle.simulator_recovery.specs.Flows.{IsFlow};
 ghost use Rattle.simulator_recovery.specs.Lamps.{AcceptsCancel, IsWithdrawnFrom, NoneProceeds, and_cancel, as_cancel_comes};
 ghost use Rattle.simulator_recovery.specs.LinkRounds.{StaysBelowLimit, link_rounds};
@@ -84,17 +84,15 @@ pub(crate) fn rounds_leave_no_cancelled_route()
 /// A route is free after its cancel: where a cancel of a route that proceeds is accepted after a good round from the 1565th on, the route
 /// is free after the second round after, or a later one, if no section of it was reported occupied since its authority was given, all are
 /// clear then, and its approach didn't count. So it is 20 ms after the cancel, whatever requests and occupancies come before and after,
-/// as long as the route isn't set anew (`IsNotSetAnew`). Where trains are kept apart it is so after the 182nd round after, 1,820 ms, where
-/// all have been noted clear for so long that all reports have come (`AreLongClear`).
+/// as long as the route isn't set anew (`IsNotSetAnew`).
 pub fn routes_are_free_behind_a_cancel()
     ensures { (between : List Event) (later : List (List Event)) (before : List Event) (more : List (List Event)) (flowing : Flowing) (route : RouteId) (row : Row) → IsFlow flowing
         → Each IsWork between → Each (Each IsWork) later → Each IsWork before → Each (Each IsWork) more → IsNotSetAnew route.0 more (good_rounds (between ∷ (later ++ and_cancel route before ∷ [])) flowing) → HasTime (suc (length (later ++ and_cancel route before ∷ more))) flowing.state.run
-        → slice_get flowing.state.sited.table.rows route.0 ≡ Some row → ready_rounds ≤ suc (suc (length later)) → free_rounds flowing.state.sited.table ≤ length more
+        → slice_get flowing.state.sited.table.rows route.0 ≡ Some row → ready_rounds ≤ suc (suc (length later)) → authority_rounds ≤ length more
         → StaysBelowLimit flowing.state.sited.site row.entry (later ++ and_cancel route before ∷ more) (all_tried between (round flowing))
         → At (as_cancel_comes (between ∷ later) before flowing).state.run.interlocking.ixl.routes route.0 Proceeds → AcceptsCancel route (as_cancel_comes (between ∷ later) before flowing).state
         → (state : RouteState) → slice_get (good_rounds (between ∷ (later ++ and_cancel route before ∷ more)) flowing).state.run.interlocking.ixl.routes route.0 ≡ Some state
         → IsUnseen row state → AllClear flowing.state.sited.table (good_rounds (between ∷ (later ++ and_cancel route before ∷ more)) flowing).state.run.interlocking.ixl row.sections
-        → AreLongClear (reading_of (good_rounds (between ∷ (later ++ and_cancel route before ∷ more)) flowing).state.run.interlocking.clock) flowing.state.sited.table state
         → state.approached ≡ false → is_set state.phase ≡ false }
 {
     laws_below();
@@ -185,13 +183,12 @@ pub fn authority_ends_within_a_heartbeat()
 /// A route whose authority has ended is free after its approach: a cancelled one is free 12000 good rounds later, 120,000 ms, or more, if
 /// no section of it was reported occupied since its authority was given and all are clear then. So it is whether or not its approach
 /// counted, whatever has happened to the station before, whatever becomes of its links, and whatever requests and occupancies come,
-/// as long as the route isn't set anew (`IsNotSetAnew`). Where trains are kept apart all are noted clear for 1,800 ms then (`AreLongClear`).
+/// as long as the route isn't set anew (`IsNotSetAnew`).
 pub fn ended_routes_are_free_behind_their_approach()
     ensures { (more : List (List Event)) (flowing : Flowing) (number : ℕ) (row : Row) (route : RouteState) (clock freed : ℕ) → IsFlow flowing → Each (Each IsWork) more → IsNotSetAnew number more flowing → HasTime (length more) flowing.state.run → approach_time_rounds ≤ length more
         → IsRouteOf flowing.state.sited.table flowing.state.run.interlocking.ixl number row route → route.cancelled ≡ true → route.phase ≡ Ended clock freed
         → (state : RouteState) → slice_get (good_rounds more flowing).state.run.interlocking.ixl.routes number ≡ Some state
-        → IsUnseen row state → AllClear flowing.state.sited.table (good_rounds more flowing).state.run.interlocking.ixl row.sections
-        → AreLongClear (reading_of (good_rounds more flowing).state.run.interlocking.clock) flowing.state.sited.table state → is_set state.phase ≡ false }
+        → IsUnseen row state → AllClear flowing.state.sited.table (good_rounds more flowing).state.run.interlocking.ixl row.sections → is_set state.phase ≡ false }
 {
     laws_below();
 }
@@ -199,8 +196,8 @@ pub fn ended_routes_are_free_behind_their_approach()
 /// A cancelled route is free after its approach: where a cancel of a route that proceeds is accepted after a good round from the 1565th on,
 /// the route is free 12002 good rounds after, 120,020 ms, or more, if no section of it was reported occupied since its authority was given
 /// and all are clear then. So it is whether or not its approach counted, and whatever requests and occupancies come, as long as the
-/// route isn't set anew after its cancel (`IsNotSetAnew`). Where trains are kept apart all are noted clear for 1,800 ms then
-/// (`AreLongClear`). The premises are those of `links_come_up`, of the signal's link, till 20 ms after it.
+/// route isn't set anew after its cancel (`IsNotSetAnew`). The premises are those of `links_come_up`, of the signal's link, till 20 ms
+/// after it.
 pub fn cancelled_routes_are_free_behind_their_approach()
     ensures { (between : List Event) (later : List (List Event)) (before : List Event) (some more : List (List Event)) (flowing : Flowing) (route : RouteId) (row : Row) → IsFlow flowing
         → Each IsWork between → Each (Each IsWork) later → Each IsWork before → Each (Each IsWork) (some ++ more) → IsNotSetAnew route.0 (some ++ more) (good_rounds (between ∷ (later ++ and_cancel route before ∷ [])) flowing) → HasTime (suc (length (later ++ and_cancel route before ∷ (some ++ more)))) flowing.state.run
@@ -209,7 +206,7 @@ pub fn cancelled_routes_are_free_behind_their_approach()
         → At (as_cancel_comes (between ∷ later) before flowing).state.run.interlocking.ixl.routes route.0 Proceeds → AcceptsCancel route (as_cancel_comes (between ∷ later) before flowing).state
         → (state : RouteState) → slice_get (good_rounds (between ∷ (later ++ and_cancel route before ∷ (some ++ more))) flowing).state.run.interlocking.ixl.routes route.0 ≡ Some state
         → IsUnseen row state → AllClear flowing.state.sited.table (good_rounds (between ∷ (later ++ and_cancel route before ∷ (some ++ more))) flowing).state.run.interlocking.ixl row.sections
-        → AreLongClear (reading_of (good_rounds (between ∷ (later ++ and_cancel route before ∷ (some ++ more))) flowing).state.run.interlocking.clock) flowing.state.sited.table state → is_set state.phase ≡ false }
+        → is_set state.phase ≡ false }
 {
     laws_below();
 }

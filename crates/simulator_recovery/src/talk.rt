@@ -1,6 +1,6 @@
 //! What the two ends of a link say and expect.
 
-ghost use Rattle.std.specs.Prelude.{◌≡◌, ◌+◌, ◌-◌, ◌≤◌, ℕ, suc, true, IsTrue, List, length, map, ◌++◌, Bool};
+ghost use Rattle.std.specs.Prelude.{◌≡◌, ◌+◌, ◌-◌, ◌≤◌, ℕ, suc, true, IsTrue, List, length, map, ◌++◌};
 ghost use Rattle.object_host_laws.specs.World.{Event as WorldEvent, MayRun, World, begun, happened, run};
 ghost use Rattle.ixl_table.specs.Table.{IsTableOf};
 ghost use Rattle.simulator_spec.specs.First.{Outset, world_at};
@@ -23,7 +23,7 @@ ghost use Rattle.simulator_spec.specs.layout.Station.{IsStation};
 ghost use Rattle.simulator_spec.specs.object_host.Host.{HostState, said};
 ghost use Rattle.simulator_spec.specs.object_host.Hosted.{new_host};
 ghost use Rattle.simulator_spec.specs.object_host.Made.{items_given};
-ghost use Rattle.simulator_spec.specs.object_host.Step.{acting as acting_host, found, host_step, initialising, is_in_version};
+ghost use Rattle.simulator_spec.specs.object_host.Step.{acting as acting_host, beginning, host_step, initialising, is_in_version};
 ghost use Rattle.simulator_spec.specs.object_host.Told.{initialisation, item_of as item_reported, item_of};
 ghost use Rattle.simulator_spec.specs.object_host.declared.input.Input.{Input};
 ghost use Rattle.simulator_spec.specs.object_host.declared.report.Report.{Report};
@@ -116,7 +116,7 @@ pub(crate) fn clients_expect_what_hosts_say<C: Controller>()
 /// The stage of a host tells how many items it has acted on in its connection: none before the check of the version, one after it,
 /// and at least two once the initialisation is completed. Each step in which its link stays open keeps that.
 pub(crate) fn hosts_count_what_they_act_on<C: Controller>()
-    ensures { (now : ℕ) (input : Input) (host : HostState C) (count : ℕ) → HostHasActedOn (found C.behaviour now host).host.stage count
+    ensures { (now : ℕ) (input : Input) (host : HostState C) (count : ℕ) → HostHasActedOn (beginning C.behaviour now host).stage count
         → is_open (host_step C.behaviour now input host).host.link.phase ≡ true
         → HostHasActedOn (host_step C.behaviour now input host).host.stage (count + length (host_step C.behaviour now input host).acted) }
 {}
@@ -133,11 +133,11 @@ pub(crate) fn clients_count_what_they_act_on()
 /// So it is in a world of a commanding client and a host, from its beginning on: while the host's link is open, its stage tells how many
 /// items it has acted on in its connection. Every event keeps that, where the clock rules of the host's end are applied (*kept*); and so it is after every list of events (*always*).
 pub(crate) fn hosts_stand_at_their_stage<C: Controller>()
-    ensures starts { (names : Names) (start : Start) (own_name peer_name : List ℕ) (object : C) (version : ℕ) (is_strict : Bool) → StandsAtItsStage (begun C.behaviour names start own_name peer_name object version is_strict) }
+    ensures starts { (names : Names) (start : Start) (own_name peer_name : List ℕ) (object : C) (version : ℕ) → StandsAtItsStage (begun C.behaviour names start own_name peer_name object version) }
     ensures kept { (event : WorldEvent C) (world : World C) → IsSettled world → StandsAtItsStage world → StandsAtItsStage (happened C.behaviour event world) }
-    ensures always { (names : Names) (start : Start) (own_name peer_name : List ℕ) (object : C) (version : ℕ) (is_strict : Bool) (events : List (WorldEvent C)) → AreNames names
-        → MayRun C.behaviour names events (begun C.behaviour names start own_name peer_name object version is_strict)
-        → StandsAtItsStage (run C.behaviour events (begun C.behaviour names start own_name peer_name object version is_strict)) }
+    ensures always { (names : Names) (start : Start) (own_name peer_name : List ℕ) (object : C) (version : ℕ) (events : List (WorldEvent C)) → AreNames names
+        → MayRun C.behaviour names events (begun C.behaviour names start own_name peer_name object version)
+        → StandsAtItsStage (run C.behaviour events (begun C.behaviour names start own_name peer_name object version)) }
 {
     laws_below();
     laws_of_host::<C>();
@@ -184,8 +184,8 @@ pub(crate) fn controllers_tell_as_many()
 /// one, or at least so many. So a host has acted on each item that its link took, and has said all that belongs to its stage. A host
 /// that was just made stands by its counts (*made*), and each step keeps that (*kept*), whatever comes.
 pub(crate) fn hosts_stand_by_their_counts<C: Controller>()
-    ensures made { (identity : Identity) (own_name peer_name : List ℕ) (first now : ℕ) (object : C) (version objects : ℕ) (is_strict : Bool) → TellsAsMany C.behaviour → objects_told C.behaviour object ≡ objects
-        → HostStandsByCounts C.behaviour objects (new_host C.behaviour identity own_name peer_name first now object version is_strict) }
+    ensures made { (identity : Identity) (own_name peer_name : List ℕ) (first now : ℕ) (object : C) (version objects : ℕ) → TellsAsMany C.behaviour → objects_told C.behaviour object ≡ objects
+        → HostStandsByCounts C.behaviour objects (new_host C.behaviour identity own_name peer_name first now object version) }
     ensures kept { (now : ℕ) (input : Input) (host : HostState C) (objects : ℕ) → TellsAsMany C.behaviour → HostStandsByCounts C.behaviour objects host
         → HostStandsByCounts C.behaviour objects (host_step C.behaviour now input host).host }
 {}
@@ -206,13 +206,13 @@ pub(crate) fn hosts_say_in_their_order<C: Controller>()
 /// the connection is what its stage tells, in order. Every event keeps that, where the clock rules of the host's end are applied (*kept*);
 /// and so it is after every list of events (*always*). Where the host is made anew, its new object tells of as many as the old one.
 pub(crate) fn hosts_have_said_what_their_stage_tells<C: Controller>()
-    ensures starts { (names : Names) (start : Start) (own_name peer_name : List ℕ) (object : C) (version objects : ℕ) (is_strict : Bool) → TellsAsMany C.behaviour → objects_told C.behaviour object ≡ objects
-        → StandsByWhatItSaid C.behaviour objects (begun C.behaviour names start own_name peer_name object version is_strict) }
+    ensures starts { (names : Names) (start : Start) (own_name peer_name : List ℕ) (object : C) (version objects : ℕ) → TellsAsMany C.behaviour → objects_told C.behaviour object ≡ objects
+        → StandsByWhatItSaid C.behaviour objects (begun C.behaviour names start own_name peer_name object version) }
     ensures kept { (event : WorldEvent C) (world : World C) (objects : ℕ) → TellsAsMany C.behaviour → IsSettled world → MakesAsMany C.behaviour objects event → StandsByWhatItSaid C.behaviour objects world
         → StandsByWhatItSaid C.behaviour objects (happened C.behaviour event world) }
-    ensures always { (names : Names) (start : Start) (own_name peer_name : List ℕ) (object : C) (version objects : ℕ) (is_strict : Bool) (events : List (WorldEvent C)) → TellsAsMany C.behaviour → AreNames names
-        → objects_told C.behaviour object ≡ objects → Each (MakesAsMany C.behaviour objects) events → MayRun C.behaviour names events (begun C.behaviour names start own_name peer_name object version is_strict)
-        → StandsByWhatItSaid C.behaviour objects (run C.behaviour events (begun C.behaviour names start own_name peer_name object version is_strict)) }
+    ensures always { (names : Names) (start : Start) (own_name peer_name : List ℕ) (object : C) (version objects : ℕ) (events : List (WorldEvent C)) → TellsAsMany C.behaviour → AreNames names
+        → objects_told C.behaviour object ≡ objects → Each (MakesAsMany C.behaviour objects) events → MayRun C.behaviour names events (begun C.behaviour names start own_name peer_name object version)
+        → StandsByWhatItSaid C.behaviour objects (run C.behaviour events (begun C.behaviour names start own_name peer_name object version)) }
 {
     laws_below();
     laws_of_host::<C>();

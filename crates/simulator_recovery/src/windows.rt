@@ -64,32 +64,30 @@ pub(crate) fn signals_never_fill_their_windows()
     laws_below();
 }
 
-/// After every list of events of a station, on any network, no event that can happen is one in which a controller closes its link, but to
-/// keep trains apart: what comes to it is always what it expects, however many items a datagram has. So where trains aren't kept apart the
-/// link of a controller closes by its own clock alone, or by what its partner says. Where they are, a controller closes one that isn't
-/// caught up any more, too, and a detector's one whose window refuses a report.
+/// After every list of events of a station, on any network, no event that can happen is one in which a controller closes its link: what
+/// comes to it is always what it expects, however many items a datagram has. So the link of a controller closes by its own clock alone, or
+/// by what its partner says.
 pub(crate) fn controllers_close_no_link()
     ensures { (site : Site) (table : Table) (world : WorldState) (happening : Event) → IsStation site → Once site → IsTableOf site table → IsReached site table world
-        → refusal site happening world ≡ None → Each (LeavesServerOpen site) (events_of site table happening world) }
+        → refusal site happening world ≡ None → Each LeavesServerOpen (events_of site table happening world) }
 {
     laws_below();
 }
 
-/// Nor is there one in which a client closes its link but for its own full window, or to keep trains apart: what comes to it is always what it expects, each item
+/// Nor is there one in which a client closes its link but for its own full window: what comes to it is always what it expects, each item
 /// of a datagram in its turn. A point's client that awaits no report is told nothing.
 pub(crate) fn clients_close_by_their_window_alone()
     ensures { (site : Site) (table : Table) (world : WorldState) (happening : Event) → IsStation site → Once site → IsTableOf site table → IsReached site table world
-        → refusal site happening world ≡ None → Each (LeavesClientOpen site) (events_of site table happening world) }
+        → refusal site happening world ≡ None → Each LeavesClientOpen (events_of site table happening world) }
 {
     laws_below();
 }
 
 /// So no event closes a link, after every list of events of a station, on any network: no telegram does, and no client's window is full.
-/// A link closes by its own clock alone, by the limit of PDUs in a connection, or by what the other end of it says. Where trains are kept
-/// apart an end closes one that isn't caught up any more, too, and a detector one whose window refuses a report.
+/// A link closes by its own clock alone, by the limit of PDUs in a connection, or by what the other end of it says.
 pub fn events_close_no_link()
     ensures { (site : Site) (table : Table) (world : WorldState) (happening : Event) (link : ℕ) → IsStation site → Once site → IsTableOf site table → IsReached site table world
-        → refusal site happening world ≡ None → link < links site → Each (LeavesOpenOn site link) (events_of site table happening world) }
+        → refusal site happening world ≡ None → link < links site → Each (LeavesOpenOn link) (events_of site table happening world) }
 {
     laws_below();
 }

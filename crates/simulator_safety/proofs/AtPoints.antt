@@ -48,7 +48,6 @@ use Rattle.simulator_link_laws.specs.simulator_spec.Nodes.{links, names_of, poin
 use Rattle.simulator_link_laws.specs.simulator_spec.Refusals.{driven_by}
 use Rattle.simulator_link_laws.specs.simulator_spec.Controllers.{controller_after, controller_anew, sent_by_controller, step_of}
 use Rattle.simulator_link_laws.specs.simulator_spec.State.{ClockedControllerState, WorldState}
-use Rattle.simulator_link_laws.specs.control_table.Table.{telegram_version}
 use Rattle.simulator_safety.specs.Represents.{IsHostOf, IsNetworkOf, Represents, RepresentsAfter}
 use Rattle.simulator_safety.specs.Change.{PointChanges}
 use Rattle.simulator_safety.proofs.AtSignals.{named_still}
@@ -67,7 +66,7 @@ pub record PointLaws : Type 0 where
   pub named : (site : Site) (place : ℕ) (entry : Point) → slice_get site.points place ≡ Some entry → (point_link site place < links site) × (names_at site (point_link site place) ≡ names_of site entry.id)
   pub items : (site : Site) (world : WorldState) → IsWhole site world → (place : ℕ) (server : ClockedControllerState PointState) → slice_get world.points place ≡ Some server
       → (input : Input) → AreItems (step_of point_behaviour input server).calls
-  pub calls_for : (now : ℕ) (input : Input) (host : HostState PointState) → AreCallsFor now host.link input (host_step point_behaviour now input host).calls
+  pub calls_for : (now : ℕ) (input : Input) (host : HostState PointState) → AreCallsFor input (host_step point_behaviour now input host).calls
   pub names : (now : ℕ) (input : Input) (host : HostState PointState) → IsNamedAs host (host_step point_behaviour now input host).host
   pub moves : (input : Input) (connection : ℕ) (ends : Ends) (host : HostState PointState) (point : MachinePoint) → IsPointSound point → IsPointSeen ends host point → IsMovedDriven ends input host
       → Steps input connection ends (called_all connection (host_step point_behaviour (reading_of ends.server.clock) input host).calls ends)
@@ -76,7 +75,7 @@ pub record PointLaws : Type 0 where
   pub restarts : (clock first : ℕ) (object : PointState) (ends : Ends) (host : HostState PointState) (point : MachinePoint) → AreFit ends → AreFit (restarted role.Server clock first ends)
       → IsPointSeen ends host point → object.sensed ≡ host.object.sensed → LinkGoes (moves_by false (is_open ends.server.link.phase) false) (link_represented ends) (link_represented (restarted role.Server clock first ends))
       → PointGoes point (IsPointSeen (restarted role.Server clock first ends)
-      (new_host point_behaviour ends.server.link.identity host.own_name host.peer_name first clock object host.version host.is_strict))
+      (new_host point_behaviour ends.server.link.identity host.own_name host.peer_name first clock object host.version))
   pub step : (now : ℕ) (input : Input) (host : HostState PointState) → IsPointStep now input host (host_step point_behaviour now input host)
 
 point_is : (site : Site) (world : WorldState) (input : Input) (connection place : ℕ) (server : ClockedControllerState PointState) → slice_get world.points place ≡ Some server → point_stepped site input connection place world ≡ record world {
@@ -224,17 +223,16 @@ module _ (laws : PointLaws) (site : Site) (table : Table) (world : WorldState) (
       object = made position
 
       from_names : (host : HostState PointState) (identity : Identity) → identity ≡ identity_of role.Server (names_of site entry.id) → IsHostOf site entry.name host
-          → new_host point_behaviour identity host.own_name host.peer_name begins.first begins.clock object host.version host.is_strict ≡ new_point site begins position entry
+          → new_host point_behaviour identity host.own_name host.peer_name begins.first begins.clock object host.version ≡ new_point site begins position entry
       from_names host identity same is =
-          ap (λ i. new_host point_behaviour i host.own_name host.peer_name begins.first begins.clock object host.version host.is_strict) same
-          ∙ ap (λ n. new_host point_behaviour (identity_of role.Server (names_of site entry.id)) n host.peer_name begins.first begins.clock object host.version host.is_strict) is.own_name
-          ∙ ap (λ n. new_host point_behaviour (identity_of role.Server (names_of site entry.id)) entry.name n begins.first begins.clock object host.version host.is_strict) is.peer_name
-          ∙ ap (λ n. new_host point_behaviour (identity_of role.Server (names_of site entry.id)) entry.name site.station.name begins.first begins.clock object n host.is_strict) is.version
-          ∙ ap (λ b. new_host point_behaviour (identity_of role.Server (names_of site entry.id)) entry.name site.station.name begins.first begins.clock object (telegram_version site) b) is.is_strict
+          ap (λ i. new_host point_behaviour i host.own_name host.peer_name begins.first begins.clock object host.version) same
+          ∙ ap (λ n. new_host point_behaviour (identity_of role.Server (names_of site entry.id)) n host.peer_name begins.first begins.clock object host.version) is.own_name
+          ∙ ap (λ n. new_host point_behaviour (identity_of role.Server (names_of site entry.id)) entry.name n begins.first begins.clock object host.version) is.peer_name
+          ∙ ap (λ n. new_host point_behaviour (identity_of role.Server (names_of site entry.id)) entry.name site.station.name begins.first begins.clock object n) is.version
 
       new_is_host : IsHostOf site entry.name (new_point site begins position entry)
       unfolding new_host keeping
-      new_is_host = record { own_name = refl; peer_name = refl; version = refl; is_strict = refl }
+      new_is_host = record { own_name = refl; peer_name = refl; version = refl }
 
       new_stands : (new_point site begins position entry).object.sensed ≡ position
       unfolding new_host keeping
@@ -266,7 +264,7 @@ module _ (laws : PointLaws) (site : Site) (table : Table) (world : WorldState) (
             (represented.points.each place server is) stands_there (laws.link.restarts (names_at site (point_link site place)) begins.clock begins.first (seen (point_link site place) before) ((laws.link.are_links site station once).each (point_link site place) anew_below) lawful.timely)
             in subst (λ (h : HostState PointState). PointGoes (machine.points place) (IsPointSeen (seen (point_link site place) anew_after) h))
             (from_names server.host (before.ends (point_link site place)).server.link.identity identity_is (represented.points.hosts place entry server at is) ∙ sym (host_anew (new_point site begins position entry) begins.clock (length world.sent) server))
-            (subst (λ (e : Ends). PointGoes (machine.points place) (IsPointSeen e (new_host point_behaviour (before.ends (point_link site place)).server.link.identity server.host.own_name server.host.peer_name begins.first begins.clock object server.host.version server.host.is_strict)))
+            (subst (λ (e : Ends). PointGoes (machine.points place) (IsPointSeen e (new_host point_behaviour (before.ends (point_link site place)).server.link.identity server.host.own_name server.host.peer_name begins.first begins.clock object server.host.version)))
             (sym (own_anew laws.link.anew (point_link site place) begins.clock begins.first before)) goes)
 
         anew_represented : IsNetworkOf site (point_anew site begins place (Some entry) world) anew_after → RepresentsAfter site table machine (point_anew site begins place (Some entry) world)

@@ -40,7 +40,6 @@ use Rattle.simulator_link_laws.specs.simulator_spec.Links.{AreLinksOf, names_at}
 use Rattle.simulator_link_laws.specs.simulator_spec.Nodes.{links, names_of}
 use Rattle.simulator_link_laws.specs.simulator_spec.Controllers.{controller_after, controller_anew, sent_by_controller, step_of}
 use Rattle.simulator_link_laws.specs.simulator_spec.State.{ClockedControllerState, WorldState}
-use Rattle.simulator_link_laws.specs.control_table.Table.{telegram_version}
 use Rattle.simulator_safety.specs.Represents.{IsHostOf, IsNetworkOf, Represents, RepresentsAfter}
 use Rattle.simulator_safety.specs.Change.{SignalChanges}
 use Rattle.simulator_safety.proofs.ControllerLists.{changed_one, some_within, within_some}
@@ -58,7 +57,7 @@ pub record SignalLaws : Type 0 where
   pub named : (site : Site) (place : ℕ) (entry : Signal) → slice_get site.signals place ≡ Some entry → (place < links site) × (names_at site place ≡ names_of site entry.id)
   pub items : (site : Site) (world : WorldState) → IsWhole site world → (place : ℕ) (server : ClockedControllerState SignalState) → slice_get world.signals place ≡ Some server
       → (input : Input) → AreItems (step_of signal_behaviour input server).calls
-  pub calls_for : (now : ℕ) (input : Input) (host : HostState SignalState) → AreCallsFor now host.link input (host_step signal_behaviour now input host).calls
+  pub calls_for : (now : ℕ) (input : Input) (host : HostState SignalState) → AreCallsFor input (host_step signal_behaviour now input host).calls
   pub names : (now : ℕ) (input : Input) (host : HostState SignalState) → IsNamedAs host (host_step signal_behaviour now input host).host
   pub moves : (input : Input) (connection : ℕ) (ends : Ends) (host : HostState SignalState) (signal : MachineSignal) → IsSignalSound signal → IsSignalSeen ends host signal
       → Steps input connection ends (called_all connection (host_step signal_behaviour (reading_of ends.server.clock) input host).calls ends)
@@ -67,7 +66,7 @@ pub record SignalLaws : Type 0 where
   pub restarts : (clock first : ℕ) (object : SignalState) (ends : Ends) (host : HostState SignalState) (signal : MachineSignal) → AreFit ends → AreFit (restarted role.Server clock first ends)
       → IsSignalSeen ends host signal → LinkGoes (moves_by false (is_open ends.server.link.phase) false) (link_represented ends) (link_represented (restarted role.Server clock first ends))
       → SignalGoes signal (IsSignalSeen (restarted role.Server clock first ends)
-      (new_host signal_behaviour ends.server.link.identity host.own_name host.peer_name first clock object host.version host.is_strict))
+      (new_host signal_behaviour ends.server.link.identity host.own_name host.peer_name first clock object host.version))
 
 -- a host that keeps its names is that of its controller still
 pub named_still : {Object : Type 0} (site : Site) (name : List ℕ) (old new : HostState Object) → IsNamedAs old new → IsHostOf site name old → IsHostOf site name new
@@ -75,7 +74,6 @@ named_still site name old new named is = record {
   own_name = named.own_name ∙ is.own_name;
   peer_name = named.peer_name ∙ is.peer_name;
   version = named.version ∙ is.version;
-  is_strict = named.is_strict ∙ is.is_strict;
 }
 
 signal_is : (site : Site) (world : WorldState) (input : Input) (connection place : ℕ) (server : ClockedControllerState SignalState) → slice_get world.signals place ≡ Some server → signal_stepped site input connection place world ≡ record world {
@@ -171,17 +169,16 @@ module _ (laws : SignalLaws) (site : Site) (table : Table) (world : WorldState) 
       object = record { lamp = new_lamp; owes = false }
 
       from_names : (host : HostState SignalState) (identity : Identity) → identity ≡ identity_of role.Server (names_of site entry.id) → IsHostOf site entry.name host
-          → new_host signal_behaviour identity host.own_name host.peer_name begins.first begins.clock object host.version host.is_strict ≡ new_signal site begins entry
+          → new_host signal_behaviour identity host.own_name host.peer_name begins.first begins.clock object host.version ≡ new_signal site begins entry
       from_names host identity same is =
-          ap (λ i. new_host signal_behaviour i host.own_name host.peer_name begins.first begins.clock object host.version host.is_strict) same
-          ∙ ap (λ n. new_host signal_behaviour (identity_of role.Server (names_of site entry.id)) n host.peer_name begins.first begins.clock object host.version host.is_strict) is.own_name
-          ∙ ap (λ n. new_host signal_behaviour (identity_of role.Server (names_of site entry.id)) entry.name n begins.first begins.clock object host.version host.is_strict) is.peer_name
-          ∙ ap (λ n. new_host signal_behaviour (identity_of role.Server (names_of site entry.id)) entry.name site.station.name begins.first begins.clock object n host.is_strict) is.version
-          ∙ ap (λ b. new_host signal_behaviour (identity_of role.Server (names_of site entry.id)) entry.name site.station.name begins.first begins.clock object (telegram_version site) b) is.is_strict
+          ap (λ i. new_host signal_behaviour i host.own_name host.peer_name begins.first begins.clock object host.version) same
+          ∙ ap (λ n. new_host signal_behaviour (identity_of role.Server (names_of site entry.id)) n host.peer_name begins.first begins.clock object host.version) is.own_name
+          ∙ ap (λ n. new_host signal_behaviour (identity_of role.Server (names_of site entry.id)) entry.name n begins.first begins.clock object host.version) is.peer_name
+          ∙ ap (λ n. new_host signal_behaviour (identity_of role.Server (names_of site entry.id)) entry.name site.station.name begins.first begins.clock object n) is.version
 
       new_is_host : IsHostOf site entry.name (new_signal site begins entry)
       unfolding new_host keeping
-      new_is_host = record { own_name = refl; peer_name = refl; version = refl; is_strict = refl }
+      new_is_host = record { own_name = refl; peer_name = refl; version = refl }
 
       module _ (server : ClockedControllerState SignalState) (is : slice_get world.signals place ≡ Some server) where
         abbrev next_anew : ClockedControllerState SignalState
@@ -204,7 +201,7 @@ module _ (laws : SignalLaws) (site : Site) (table : Table) (world : WorldState) 
             (represented.signals.each place server is) (laws.link.restarts (names_at site place) begins.clock begins.first (seen place before) ((laws.link.are_links site station once).each place anew_below) lawful.timely)
             in subst (λ (h : HostState SignalState). SignalGoes (machine.signals place) (IsSignalSeen (seen place anew_after) h))
             (from_names server.host (before.ends place).server.link.identity identity_is (represented.signals.hosts place entry server at is) ∙ sym (host_anew (new_signal site begins entry) begins.clock (length world.sent) server))
-            (subst (λ (e : Ends). SignalGoes (machine.signals place) (IsSignalSeen e (new_host signal_behaviour (before.ends place).server.link.identity server.host.own_name server.host.peer_name begins.first begins.clock object server.host.version server.host.is_strict)))
+            (subst (λ (e : Ends). SignalGoes (machine.signals place) (IsSignalSeen e (new_host signal_behaviour (before.ends place).server.link.identity server.host.own_name server.host.peer_name begins.first begins.clock object server.host.version)))
             (sym (own_anew laws.link.anew place begins.clock begins.first before)) goes)
 
         anew_represented : IsNetworkOf site (signal_anew site begins place (Some entry) world) anew_after → RepresentsAfter site table machine (signal_anew site begins place (Some entry) world)

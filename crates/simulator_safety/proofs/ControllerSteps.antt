@@ -4,7 +4,7 @@ use Rattle.std.specs.Prelude.{◌<◌}
 use Rattle.simulator_link_laws.specs.layout.Entries.{Site}
 use Rattle.simulator_link_laws.specs.layout.Once.{Once}
 use Rattle.simulator_link_laws.specs.layout.Station.{IsStation}
-use Rattle.simulator_link_laws.specs.rasta_core.Ends.{Call, reading_of}
+use Rattle.simulator_link_laws.specs.rasta_core.Ends.{Call}
 use Rattle.simulator_link_laws.specs.rasta_core.Events.{Restarts, happened, run}
 use Rattle.simulator_link_laws.specs.rasta_core.Invariant.{Timely}
 use Rattle.simulator_link_laws.specs.rasta_core.Links.{AreLinks, CallsOn, Links, RestartsOn, run_links, seen}
@@ -49,7 +49,7 @@ pub record LinkLaws : Type 0 where
   pub each : (count : ℕ) (names : ℕ → Names) (network : Links) → AreLawful count names network → (link : ℕ) → link < count → IsLawful (names link) (seen link network)
   pub fit : (names : Names) (ends : Ends) → IsLawful names ends → AreFit ends
   pub steps : (names : Names) (input : Input) (connection : ℕ) (calls : List LinkCall) (ends : Ends) → AreNames names → IsLawful names ends
-      → MayHear names input connection ends → AreCallsFor (reading_of ends.server.clock) ends.server.link input calls → AreItems calls → Steps input connection ends (called_all connection calls ends)
+      → MayHear names input connection ends → AreCallsFor input calls → AreItems calls → Steps input connection ends (called_all connection calls ends)
   pub restarts : (names : Names) (clock first : ℕ) (ends : Ends) → AreNames names → Timely names ends
       → LinkGoes (moves_by false (is_open ends.server.link.phase) false) (represented ends) (represented (happened (Restarts role.Server clock first) ends))
 

@@ -1,5 +1,5 @@
 -- A station as it lies when it is started, seen by the first state of the machine.
-use Rattle.std.proofs.Common.{◌≡◌, ◌∙◌, Bool, true, false, ℕ, ◌<◌, ◌≤◌, List, [], ◌∷◌, length, map, Some, option_map, refl, sym, ap, subst, arith}
+use Rattle.std.proofs.Common.{◌≡◌, ◌∙◌, true, false, ℕ, ◌<◌, ◌≤◌, List, [], ◌∷◌, length, map, Some, option_map, refl, sym, ap, subst, arith}
 use Rattle.std.specs.List.{zip}
 use Rattle.std.specs.Prelude.{slice_get}
 use Rattle.std.proofs.lemmas.Bool.{false≢true}
@@ -71,12 +71,12 @@ just_made site table begins = record {
 
 -- the laws that this stands on
 pub record FirstLaws : Type 0 where
-  pub signals : (names : Names) (start : Start) (own_name peer_name : List ℕ) (object : SignalState) (version place : ℕ) (is_strict : Bool) (positions : ℕ → machine.Position) → AreFit (started names start)
-      → IsSignalSeen (started names start) (new_host signal_behaviour (identity_of role.Server names) own_name peer_name start.server_first start.server_clock object version is_strict)
+  pub signals : (names : Names) (start : Start) (own_name peer_name : List ℕ) (object : SignalState) (version place : ℕ) (positions : ℕ → machine.Position) → AreFit (started names start)
+      → IsSignalSeen (started names start) (new_host signal_behaviour (identity_of role.Server names) own_name peer_name start.server_first start.server_clock object version)
       ((first positions).signals place)
-  pub points : (names : Names) (start : Start) (own_name peer_name : List ℕ) (object : PointState) (version place : ℕ) (is_strict : Bool) (positions : ℕ → machine.Position) → AreFit (started names start)
+  pub points : (names : Names) (start : Start) (own_name peer_name : List ℕ) (object : PointState) (version place : ℕ) (positions : ℕ → machine.Position) → AreFit (started names start)
       → IsName own_name → IsName peer_name → version < 256 → positions place ≡ position_seen object.sensed
-      → IsPointSeen (started names start) (new_host point_behaviour (identity_of role.Server names) own_name peer_name start.server_first start.server_clock object version is_strict)
+      → IsPointSeen (started names start) (new_host point_behaviour (identity_of role.Server names) own_name peer_name start.server_first start.server_clock object version)
       ((first positions).points place)
   pub fit : (names : Names) (ends : Ends) → IsLawful names ends → AreFit ends
   pub each : (count : ℕ) (names : ℕ → Names) (network : Links) → AreLawful count names network → (link : ℕ) → link < count → IsLawful (names link) (seen link network)
@@ -109,7 +109,7 @@ module _ (laws : FirstLaws) (site : Site) (table : Table) (outset : Outset) (lie
   -- a host that was just made has its names
   host_is : {Object : Type 0} (does : Behaviour Object) (name : List ℕ) (id : ℕ) (object : Object) → IsHostOf site name (host_of does site at_zero name id object)
   unfolding new_host keeping
-  host_is does name id object = record { own_name = refl; peer_name = refl; version = refl; is_strict = refl }
+  host_is does name id object = record { own_name = refl; peer_name = refl; version = refl }
 
   abbrev signal_made : Signal → ClockedControllerState SignalState
   signal_made entry = first_controller (new_signal site at_zero entry)
@@ -117,8 +117,8 @@ module _ (laws : FirstLaws) (site : Site) (table : Table) (outset : Outset) (lie
   one_signal : (place : ℕ) (entry : Signal) → slice_get site.signals place ≡ Some entry → IsSignalSeen (seen place network) (new_signal site at_zero entry) (begins.signals place)
   one_signal place entry at =
       let named = laws.signal_named site place entry at
-      in subst (λ (names : Names). IsSignalSeen (seen place network) (new_host signal_behaviour (identity_of role.Server names) entry.name site.station.name 0 0 (record { lamp = new_lamp; owes = false }) (telegram_version site) site.station.trains) (begins.signals place))
-      named.1 (laws.signals (names_at site place) (start_of place starts_at_zero) entry.name site.station.name (record { lamp = new_lamp; owes = false }) (telegram_version site) place site.station.trains (positions_at outset) (fit_at place named.0))
+      in subst (λ (names : Names). IsSignalSeen (seen place network) (new_host signal_behaviour (identity_of role.Server names) entry.name site.station.name 0 0 (record { lamp = new_lamp; owes = false }) (telegram_version site)) (begins.signals place))
+      named.1 (laws.signals (names_at site place) (start_of place starts_at_zero) entry.name site.station.name (record { lamp = new_lamp; owes = false }) (telegram_version site) place (positions_at outset) (fit_at place named.0))
 
   pub first_signals : AreSignalsSeen site network (world_at site table outset).signals begins
   unfolding world_at
@@ -151,8 +151,8 @@ module _ (laws : FirstLaws) (site : Site) (table : Table) (outset : Outset) (lie
   one_point place both at names =
       let entry = both.0
       in let named = laws.point_named site place entry (first_of_pair site.points outset.positions lies.positions place both at)
-      in subst (λ (names : Names). IsPointSeen (seen (point_link site place) network) (new_host point_behaviour (identity_of role.Server names) entry.name site.station.name 0 0 (made both.1) (telegram_version site) site.station.trains) (begins.points place))
-      named.1 (laws.points (names_at site (point_link site place)) (start_of (point_link site place) starts_at_zero) entry.name site.station.name (made both.1) (telegram_version site) place site.station.trains (positions_at outset)
+      in subst (λ (names : Names). IsPointSeen (seen (point_link site place) network) (new_host point_behaviour (identity_of role.Server names) entry.name site.station.name 0 0 (made both.1) (telegram_version site)) (begins.points place))
+      named.1 (laws.points (names_at site (point_link site place)) (start_of (point_link site place) starts_at_zero) entry.name site.station.name (made both.1) (telegram_version site) place (positions_at outset)
       (fit_at (point_link site place) named.0) names.own_name names.peer_name names.version (position_is place both at))
 
   each_point : (place : ℕ) (server : ClockedControllerState PointState) → slice_get (map (point_standing site) stood) place ≡ Some server → IsPointSeen (seen (point_link site place) network) server.host (begins.points place)

@@ -53,13 +53,11 @@ given_in site network = record {
 
 -- ---- the controllers
 
--- A host is that of a controller of the layout: it has the controller's name, speaks with the station in its version,
--- and is as strict as the station.
+-- A host is that of a controller of the layout: it has the controller's name, and speaks with the station in its version.
 pub record IsHostOf {Object : Type 0} (site : Site) (name : List ℕ) (host : HostState Object) : Type 0 where
   pub own_name : host.own_name ≡ name
   pub peer_name : host.peer_name ≡ site.station.name
   pub version : host.version ≡ telegram_version site
-  pub is_strict : host.is_strict ≡ site.station.trains
 
 -- The machine's signals are those in their controllers, at the ends of their links.
 pub record AreSignalsSeen (site : Site) (network : Links) (servers : List (ClockedControllerState SignalState)) (machine : Machine) : Type 0 where

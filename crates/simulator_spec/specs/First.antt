@@ -33,7 +33,7 @@ use Rattle.simulator_spec.specs.State.{ClockedControllerState, ClockedInterlocki
 -- the host of an object under a name and an identity
 abbrev pub host_of : {Object : Type 0} → Behaviour Object → Site → Beginning → List ℕ → ℕ → Object → HostState Object
 host_of does site begins name id object =
-    new_host does (identity_of role.Server (names_of site id)) name site.station.name begins.first begins.clock object (telegram_version site) site.station.trains
+    new_host does (identity_of role.Server (names_of site id)) name site.station.name begins.first begins.clock object (telegram_version site)
 
 -- a signal that was told nothing yet
 abbrev pub new_signal : Site → Beginning → Signal → HostState SignalState

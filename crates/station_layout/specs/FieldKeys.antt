@@ -24,7 +24,6 @@ key_text key.Flank = codes "flank"
 key_text key.Approach = codes "approach"
 key_text key.Extra = codes "extra"
 key_text key.Aspect = codes "aspect"
-key_text key.Trains = codes "trains"
 
 -- what has to stand under a key
 abbrev pub form_words : FieldKey → List ℕ
@@ -42,7 +41,6 @@ form_words key.Flank = codes "a table of points, each with `left` or `right`"
 form_words key.Approach = codes "an array of names: each 1 to 20 of A to Z, a to z, 0 to 9 and `-`"
 form_words key.Extra = codes "an array of names: each 1 to 20 of A to Z, a to z, 0 to 9 and `-`"
 form_words key.Aspect = codes "`proceed` or `slow`"
-form_words key.Trains = codes "`true` or `false`"
 
 -- the key that wants of its value what this one wants of each item of its array
 abbrev pub item_key : FieldKey → Option FieldKey
@@ -59,12 +57,11 @@ is_required key.Flank = false
 is_required key.Approach = false
 is_required key.Extra = false
 is_required key.Aspect = false
-is_required key.Trains = false
 is_required _ = true
 
 -- all keys of an entry, in the order in which they are read
 unfoldable pub all_keys : TableName → List FieldKey
-all_keys named.Station = key.Name ∷ key.Id ∷ key.Code ∷ key.Trains ∷ []
+all_keys named.Station = key.Name ∷ key.Id ∷ key.Code ∷ []
 all_keys named.Track = key.Name ∷ key.Section ∷ []
 all_keys named.Point = key.Name ∷ key.Id ∷ key.Section ∷ []
 all_keys named.Signal = key.Name ∷ key.Id ∷ key.At ∷ []

@@ -3,7 +3,7 @@ use Rattle.std.specs.Prelude.{ℕ, ℤ, pos, ◌==◌, ◌&&◌, ◌||◌, nat_l
 use Rattle.std.specs.Char.{is_ascii_hexdigit}
 use Rattle.std.specs.List.{list_all, list_any, before_first, after_first}
 use Rattle.std.specs.Str.{bytes_eq}
-use Rattle.toml.specs.Data.{Data, Items, no_items, item, Members, no_members, member, as_str, as_array, as_table, as_integer, as_bool}
+use Rattle.toml.specs.Data.{Data, Items, no_items, item, Members, no_members, member, as_str, as_array, as_table, as_integer}
 use Rattle.control_table.specs.sci_telegram.Words.{aspect_of_word, side_of_word}
 use Rattle.layout_text.specs.Values.{is_dot, is_name, route_aspect}
 use Rattle.layout_text.specs.declared.fault.Place.{Place}
@@ -71,7 +71,6 @@ unfoldable pub fits : FieldKey → Data → Bool
 fits key.Id d = is_id d
 fits key.Points d = are_sides d
 fits key.Flank d = are_sides d
-fits key.Trains d = is_some (as_bool d)
 fits k d = some_and (text_fits k) (as_str d)
 
 -- ---- what is wrong with a value

@@ -27,13 +27,12 @@ pub(crate) enum FieldKey {
     Approach,
     Extra,
     Aspect,
-    Trains,
 }
 
 /// The words of the keys.
-const WORDS: [&str; 15] = [
+const WORDS: [&str; 14] = [
     "name", "id", "key", "section", "sections", "at", "entry", "exit", "path", "points", "flank",
-    "approach", "extra", "aspect", "trains",
+    "approach", "extra", "aspect",
 ];
 
 pub(crate) const NAME_FORM: &str = "a name: 1 to 20 of A to Z, a to z, 0 to 9 and `-`";
@@ -43,7 +42,7 @@ const NAMES_FORM: &str = "an array of names: each 1 to 20 of A to Z, a to z, 0 t
 const SIDES_FORM: &str = "a table of points, each with `left` or `right`";
 
 /// What has to stand under the keys.
-const FORMS: [&str; 15] = [
+const FORMS: [&str; 14] = [
     NAME_FORM,
     "an integer from 1 to 4294967295",
     "a text of 32 hexadecimal digits",
@@ -58,7 +57,6 @@ const FORMS: [&str; 15] = [
     NAMES_FORM,
     NAMES_FORM,
     "`proceed` or `slow`",
-    "`true` or `false`",
 ];
 
 impl FieldKey {
@@ -97,19 +95,13 @@ impl FieldKey {
             | FieldKey::Flank
             | FieldKey::Approach
             | FieldKey::Extra
-            | FieldKey::Aspect
-            | FieldKey::Trains => false,
+            | FieldKey::Aspect => false,
             _ => true,
         }
     }
 }
 
-const STATION_KEYS: &[FieldKey] = &[
-    FieldKey::Name,
-    FieldKey::Id,
-    FieldKey::Code,
-    FieldKey::Trains,
-];
+const STATION_KEYS: &[FieldKey] = &[FieldKey::Name, FieldKey::Id, FieldKey::Code];
 
 const TRACK_KEYS: &[FieldKey] = &[FieldKey::Name, FieldKey::Section];
 

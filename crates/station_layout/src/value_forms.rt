@@ -127,7 +127,6 @@ fn fits(key: FieldKey, value: &Value) -> bool
             Some(members) => sides_fit(members),
             None => false,
         },
-        FieldKey::Trains => value.is_bool(),
         _ => match value.as_str() {
             Some(text) => text_fits(key, text),
             None => false,

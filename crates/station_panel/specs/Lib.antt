@@ -5,6 +5,7 @@ pub mod DisturbedNetwork
 pub mod Turns
 pub mod Opened
 pub mod Served
+pub mod Endings
 pub mod Inside
 -- what crates above need of the crates below
 pub use Rattle.panel_connections.specs as panel_connections

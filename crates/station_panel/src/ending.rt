@@ -36,12 +36,20 @@ pub enum PanelFault {
 }
 
 impl From<AllocError> for PanelFault {
+    ghost use Rattle.station_panel.specs.declared.ending.PanelFault.TheVariants.{OutOfMemory};
+
+    ghost from_gives = { λ _ fault. fault ≡ OutOfMemory };
+
     fn from(_error: AllocError) -> PanelFault {
         PanelFault::OutOfMemory
     }
 }
 
 impl From<DriveFault> for PanelFault {
+    ghost use Rattle.station_panel.specs.Endings.{of_drive};
+
+    ghost from_gives = { λ drive fault. fault ≡ of_drive drive };
+
     fn from(fault: DriveFault) -> PanelFault {
         match fault {
             DriveFault::OutOfMemory => PanelFault::OutOfMemory,
@@ -51,6 +59,11 @@ impl From<DriveFault> for PanelFault {
 }
 
 impl From<io::Error> for PanelFault {
+    ghost use Rattle.std.specs.IoError.{error_kind};
+    ghost use Rattle.station_panel.specs.Endings.{IsOfSystem};
+
+    ghost from_gives = { λ error fault. IsOfSystem (error_kind error) fault };
+
     fn from(error: io::Error) -> PanelFault {
         if error.kind() == io::ErrorKind::OutOfMemory {
             PanelFault::OutOfMemory

@@ -44,7 +44,7 @@ pub(crate) fn hosted<C: Controller>(
         peer_name: name(rt, "IXL1"),
         key: KEY,
     };
-    let made = Hosted::new(alloc, parties, FIRST, object, 1, false);
+    let made = Hosted::new(alloc, parties, FIRST, object, 1);
     made.expect(rt, "there is memory")
 }
 

@@ -62,7 +62,6 @@ fn client(rt: &impl Abort, alloc: Global, expected: Expected) -> Client {
         own_name: name(rt, "IXL1"),
         name: name(rt, "OC1"),
         objects,
-        is_strict: false,
     };
     let made = Client::new(alloc, STATION, CONTROLLER, KEY, peer, FIRST);
     made.expect(rt, "there is memory")

@@ -1,4 +1,3 @@
 pub mod Places
 pub mod Owed
 pub mod Told
-pub mod StrictDetectors

@@ -17,7 +17,6 @@ detection_behaviour = record {
   until = λ sections. 0;
   owed = owing;
   after_paid = paying;
-  closes_when_full = true;
   status = status_at;
   after_loss = losing;
   is_restrictive = λ now sections. true;

@@ -1,5 +1,4 @@
 pub mod Sections
 pub mod Controlled
 pub mod History
-pub mod NothingOwed
 pub mod inside

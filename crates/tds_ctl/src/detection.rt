@@ -76,10 +76,6 @@ impl Controller for Detection {
         sections::settle_first(&mut self.sections);
     }
 
-    fn closes_when_full(&self) -> bool {
-        true
-    }
-
     fn status(&self, place: usize) -> Option<Report> {
         let section = self.sections.get(place)?;
         Some(section.status())

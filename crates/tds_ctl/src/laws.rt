@@ -4,16 +4,9 @@ ghost use Rattle.std.specs.Prelude.{◌≡◌, ℕ, true, false, List};
 ghost use Rattle.sci_telegram.specs.declared.message.Occupancy.{Occupancy};
 ghost use Rattle.tds_ctl.specs.declared.section.Section.{Section};
 ghost use Rattle.tds_ctl.specs.Sections.{owing, status_at};
-ghost use Rattle.object_host.specs.Host.{HostState};
 ghost use Rattle.object_host.specs.Object.{ObjectCall, object_after, object_after_all};
-ghost use Rattle.object_host.specs.Step.{host_step};
-ghost use Rattle.object_host.specs.declared.input.Input.{Input};
-ghost use Rattle.tds_ctl.specs.NothingOwed.{IsStrictDetector, OwesNothingWhereUp};
 ghost use Rattle.tds_ctl.specs.Controlled.{detection_behaviour};
 ghost use Rattle.tds_ctl.specs.History.{History, IsChange, IsKnown, StaysOwed, begun_at, changes_at, changing, is_first, owes_at, told_by};
-
-use crate::detection::Detection;
-use object_host::{step_is_told_to_the_object, steps_keep_a_host};
 
 /// A change of a section owes its status, through every list of calls in which that isn't sent and the link isn't lost.
 pub fn owes_each_change_until_it_is_sent()
@@ -37,13 +30,3 @@ pub fn tells_every_state()
     ensures every { (calls : List ObjectCall) (sections : List Section) → IsKnown (told_by calls (begun_at sections)) }
     ensures kept { (calls : List ObjectCall) (history : History) → IsKnown history → IsKnown (told_by calls history) }
 {}
-
-/// Behind every step a detector whose station keeps trains apart owes no report, or its link isn't up: where the window of the
-/// link refuses one, the link closes in that step.
-pub fn owes_nothing_where_it_is_up()
-    ensures { (now : ℕ) (input : Input) (host : HostState (List Section)) → IsStrictDetector host
-        → OwesNothingWhereUp (host_step detection_behaviour now input host).host }
-{
-    step_is_told_to_the_object::<Detection>();
-    steps_keep_a_host::<Detection>();
-}

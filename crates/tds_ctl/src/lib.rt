@@ -8,6 +8,6 @@ mod sections;
 
 pub use detection::Detection;
 pub use laws::{
-    owes_each_change_until_it_is_sent, owes_nothing_but_changes, owes_nothing_where_it_is_up,
-    tells_every_state, tells_present_states,
+    owes_each_change_until_it_is_sent, owes_nothing_but_changes, tells_every_state,
+    tells_present_states,
 };

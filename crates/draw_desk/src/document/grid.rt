@@ -20,7 +20,7 @@ const isBend = (one, other) => [3, 4, 5].includes((other - one + 8) % 8);
 
 function newDrawing() {
   return {
-    station: {name: "STATION", id: 1, key: "", trains: false},
+    station: {name: "STATION", id: 1, key: ""},
     rails: {},     // rail -> {track, section}: what it is part of, each {name, own}; own names were given by hand
     marks: {},     // place -> {divides}: a joint, and whether sections end there
     signals: [],   // {name, id, at: place, toward: way}

@@ -61,7 +61,7 @@ const isSame = (one, other) => canonical(one) === canonical(other);
 // Lays rails along lines: of each track, and of each port of a point from the point outward.
 function drawnBy(l, lines) {
   const drawing = newDrawing(), ends = new Map();
-  Object.assign(drawing.station, {name: l.station.name, id: l.station.id, key: l.station.key || "", trains: l.station.trains === true});
+  Object.assign(drawing.station, {name: l.station.name, id: l.station.id, key: l.station.key || ""});
   const sections = new Map([...l.track, ...l.point].map(one => [one.name, one.section]));
   for (const one of l.track) {
     const places = layLine(drawing, lines[one.name], {track: {name: one.name, own: true}, section: {name: one.section, own: true}});

@@ -133,7 +133,7 @@ function writeRoutes(routes) {
     + (one.aspect === "slow" ? `aspect = "slow"\n` : "")).join("");
 }
 
-const writeStation = one => `\n[station]\nname = ${quoted(one.name)}\nid = ${one.id}\n` + (one.key ? `key = ${quoted(one.key)}\n` : "") + (one.trains ? "trains = true\n" : "");
+const writeStation = one => `\n[station]\nname = ${quoted(one.name)}\nid = ${one.id}\n` + (one.key ? `key = ${quoted(one.key)}\n` : "");
 
 function writePositions(lines) {
   const key = name => name.includes(".") ? quoted(name) : name;

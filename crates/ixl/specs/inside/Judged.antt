@@ -7,12 +7,12 @@ use Rattle.ixl_state.specs.ixl_client.Client.{ClientState, IsClient}
 use Rattle.ixl_state.specs.ixl_known.Field.{IsThere, node_at}
 use Rattle.ixl_state.specs.ixl_known.declared.node.Node.{Node}
 use Rattle.ixl_state.specs.ixl_spec.State.{IxlState}
-use Rattle.ixl_state.specs.ixl_spec.Step.{as_found, client_at, node_of}
+use Rattle.ixl_state.specs.ixl_spec.Step.{all_clocked, client_at, node_of}
 use Rattle.ixl_state.specs.State.{StateView, field_of}
 
--- it is as the input of a step at this reading finds it
+-- the clock has acted on every link at this reading
 abbrev pub IsClocked : ℕ → IxlState → Type 0
-IsClocked now ixl = (before : IxlState) × (ixl ≡ as_found now before)
+IsClocked now ixl = (before : IxlState) × (ixl ≡ all_clocked now before)
 
 -- the next call closes a link, whatever it is for
 abbrev pub is_at_limit : LinkState → Bool

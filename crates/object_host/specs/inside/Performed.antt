@@ -14,19 +14,14 @@ use Rattle.object_host.specs.declared.input.Input.TheVariants as inputs
 unfoldable pub may_send : LinkState → ℕ
 may_send link = if is_open link.phase then suc (window_size - length link.waiting) else 0
 
--- How many PDUs a step hands out from its input on. A link in no connection repeats no window, so that there is room for the one
--- that closed it before the input.
-unfoldable pub most_from : LinkState → ℕ
-most_from link = if is_open link.phase then 23 else 22
-
 -- a tick of the link may bring a heartbeat, or the close, beside what comes before it
 abbrev pub by_tick : Input → ℕ
 by_tick inputs.Tick = 1
 by_tick _ = 0
 
-abbrev pub before_tick : Input → LinkState → ℕ
-before_tick inputs.Tick link = 21
-before_tick _ link = most_from link
+abbrev pub before_tick : Input → ℕ
+before_tick inputs.Tick = 22
+before_tick _ = 23
 
 -- A part was performed on a host with an outbox: `new` and `outbox` are what it leaves of `old` and `box`. What it handed out, and
 -- what its link may still hand out after it, are at most so many.

@@ -15,7 +15,7 @@ use Rattle.rasta_core.specs.Run.{Ends}
 use Rattle.object_host.specs.Host.{HostState, HostSoFar, is_completed}
 use Rattle.object_host.specs.Hosted.{IsNamedAs}
 use Rattle.object_host.specs.Made.{ActsOn, commands_of, items_taken}
-use Rattle.object_host.specs.Step.{found as found_at}
+use Rattle.object_host.specs.Step.{beginning}
 use Rattle.object_host.specs.Told.{IsVersionAnswer, item_of}
 use Rattle.object_host.specs.declared.input.Input.{Input}
 use Rattle.object_host.specs.declared.report.Report.{Report}
@@ -156,8 +156,8 @@ module _
           still : (status ≡ []) ⊎ (is_moving found ≡ false)
 
         early : Early
-        early = by (is_completed (found_at point_behaviour (reading_of ends.server.clock) (host_of (hosted_on ends host))).host.stage) refl where
-          by : (b : Bool) → is_completed (found_at point_behaviour (reading_of ends.server.clock) (host_of (hosted_on ends host))).host.stage ≡ b → Early
+        early = by (is_completed (beginning point_behaviour (reading_of ends.server.clock) (host_of (hosted_on ends host))).stage) refl where
+          by : (b : Bool) → is_completed (beginning point_behaviour (reading_of ends.server.clock) (host_of (hosted_on ends host))).stage ≡ b → Early
           by true completed =
               let none : status ≡ [] = ap positions_in (made.step.tells.says.late completed)
               in record {

@@ -13,14 +13,14 @@ use Rattle.sci_telegram.specs.declared.message.SignalMessage.{SignalMessage}
 use Rattle.sci_telegram.specs.declared.message.SignalMessage.TheVariants.{IndicateAspect, IndicatedAspect}
 use Rattle.sci_telegram.specs.declared.telegram.Telegram.{Telegram}
 use Rattle.rasta_core.specs.State.{is_open}
-use Rattle.rasta_core.specs.Clock.{settled}
+use Rattle.rasta_core.specs.Clock.{alive_until, settled}
 use Rattle.rasta_core.specs.Ends.{EndState, end_later, end_restarted, kept, reading_of}
 use Rattle.rasta_core.specs.Events.{Start, started}
 use Rattle.rasta_core.specs.Names.{Names, identity_of}
 use Rattle.rasta_core.specs.Run.{Ends, later, restarted}
 use Rattle.rasta_core.specs.identity.Role.TheVariants as role
 use Rattle.rasta_core.specs.Calls.{created}
-use Rattle.object_host.specs.Host.{HostState, HostSoFar, keeping, restrictive_from}
+use Rattle.object_host.specs.Host.{HostState, HostSoFar, keeping}
 use Rattle.object_host.specs.Hosted.{new_host}
 use Rattle.object_host.specs.Made.{command_of, commands_of, is_command}
 use Rattle.object_host.specs.Step.{host_step}
@@ -36,7 +36,7 @@ use Rattle.simulator_machine.specs.Signal as machine
 use Rattle.simulator_machine.specs.Lists.{last_of}
 use Rattle.simulator_machine.specs.Point.{Position}
 use Rattle.simulator_machine.specs.Run.{first, unlinked}
-use Rattle.simulator_machine.specs.Signal.{Aspect, shown, shown_by, Signal, SignalLink, Acts, SignalMay, signal_after, aspects_given}
+use Rattle.simulator_machine.specs.Signal.{Aspect, shown, shown_by, Signal, SignalMove, SignalLink, Acts, SignalMay, signal_after, aspects_given}
 use Rattle.simulator_machine.specs.Chains.{LinkMayChain, SignalMayChain, link_chained, signal_chained}
 use Rattle.simulator_machine.specs.Invariant.{IsSignalSound}
 use Rattle.simulator_move_laws.specs.Items.{all_said, aspect_seen, aspects_in, aspects_of, said_by}
@@ -193,11 +193,10 @@ module _
     (kept (entering input connection ends) acted ++ (host_step signal_behaviour (reading_of ends.server.clock) input host).acted)
     (told_since (entering input connection ends) told ++ (host_step signal_behaviour (reading_of ends.server.clock) input host).told))
   where
-    pub step_told : (input : Input) (connection : ℕ) (ends : Ends) (host : HostState SignalState) → AreFit ends →
-        (step_of signal_behaviour input (hosted_on ends host)).host.is_strict ≡ host.is_strict → IsTold (hosted_on ends host) →
+    pub step_told : (input : Input) (connection : ℕ) (ends : Ends) (host : HostState SignalState) → AreFit ends → IsTold (hosted_on ends host) →
         IsTold (hosted_on (called_all connection (step_of signal_behaviour input (hosted_on ends host)).calls ends) (step_of signal_behaviour input (hosted_on ends host)).host)
     unfolding happened stepped
-    step_told input connection ends host fit strict told =
+    step_told input connection ends host fit told =
         let world : World SignalState = hosted_on ends host
         in let part : HostSoFar SignalState = step_of signal_behaviour input world
         in let after : IsTold (stepped signal_behaviour input connection world) = told_law (WorldSteps input connection) world fit.settled_at told
@@ -205,7 +204,7 @@ module _
         (record { dropped = []; beginning = sym (append-nil ends.server.taken); whole = λ _. refl; told_is = refl })
         in record {
           steady = record { outside = after.steady.outside; idle = after.steady.idle };
-          until = subst (λ b. part.host.object.lamp.until ≡ restrictive_from (record (host_of (hosted_on (called_all connection part.calls ends) part.host)) { is_strict = b })) (sym strict) after.until;
+          until = after.until;
           inside = λ opened. after.inside opened
               ∙ ap (λ ts. last_indicated ts Stop)
               (acted.told_is ∙ ap commands_of (sym (acted.beginning ∙ ap (λ xs. (kept (entering input connection ends) ends.server.taken ++ part.acted) ++ xs) (acted.whole opened)
@@ -230,7 +229,7 @@ module _
         }
 
     pub restarted_told : (clock first : ℕ) (object : SignalState) (ends : Ends) (host : HostState SignalState) → AreFit ends → IsTold (hosted_on ends host) →
-        IsTold (hosted_on (restarted role.Server clock first ends) (new_host signal_behaviour ends.server.link.identity host.own_name host.peer_name first clock object host.version host.is_strict))
+        IsTold (hosted_on (restarted role.Server clock first ends) (new_host signal_behaviour ends.server.link.identity host.own_name host.peer_name first clock object host.version))
     unfolding happened restarted end_restarted host_restarted new_host keeping created
     restarted_told clock first object ends host fit told =
         let after : IsTold (happened signal_behaviour (HostRestarts clock first object) (hosted_on ends host)) = told_law (HostRestarts clock first object) (hosted_on ends host) fit.settled_at told
@@ -276,13 +275,13 @@ module _
 
     pub restarted_seen : (clock first : ℕ) (object : SignalState) (ends : Ends) (host : HostState SignalState) (signal : Signal) → AreFit (restarted role.Server clock first ends) →
         LinkGoes (moves_by false (is_open ends.server.link.phase) false) (represented ends) (represented (restarted role.Server clock first ends)) → IsSignalSeen ends host signal →
-        IsTold (hosted_on (restarted role.Server clock first ends) (new_host signal_behaviour ends.server.link.identity host.own_name host.peer_name first clock object host.version host.is_strict)) →
+        IsTold (hosted_on (restarted role.Server clock first ends) (new_host signal_behaviour ends.server.link.identity host.own_name host.peer_name first clock object host.version)) →
         SignalGoes signal (IsSignalSeen (restarted role.Server clock first ends)
-        (new_host signal_behaviour ends.server.link.identity host.own_name host.peer_name first clock object host.version host.is_strict))
+        (new_host signal_behaviour ends.server.link.identity host.own_name host.peer_name first clock object host.version))
     unfolding restarted end_restarted new_host keeping created
     restarted_seen clock first object ends host signal fit goes seen told =
         linked_seen (moves_by false (is_open ends.server.link.phase) false) ends (restarted role.Server clock first ends) host
-        (new_host signal_behaviour ends.server.link.identity host.own_name host.peer_name first clock object host.version host.is_strict) signal
+        (new_host signal_behaviour ends.server.link.identity host.own_name host.peer_name first clock object host.version) signal
         (leaves_opens_none (is_open ends.server.link.phase)) goes seen fit.settled_at told refl (λ opened. absurd (false≢true opened))
 
 -- ---- what happens elsewhere
@@ -327,11 +326,11 @@ module _
 
 -- ---- the beginning
 
-pub begun_seen : (names : Names) (start : Start) (own_name peer_name : List ℕ) (object : SignalState) (version place : ℕ) (is_strict : Bool) (positions : ℕ → Position) → AreFit (started names start) →
-    represented (started names start) ≡ unlinked → IsTold (begun signal_behaviour names start own_name peer_name object version is_strict) →
-    IsSignalSeen (started names start) (new_host signal_behaviour (identity_of role.Server names) own_name peer_name start.server_first start.server_clock object version is_strict) ((first positions).signals place)
+pub begun_seen : (names : Names) (start : Start) (own_name peer_name : List ℕ) (object : SignalState) (version place : ℕ) (positions : ℕ → Position) → AreFit (started names start) →
+    represented (started names start) ≡ unlinked → IsTold (begun signal_behaviour names start own_name peer_name object version) →
+    IsSignalSeen (started names start) (new_host signal_behaviour (identity_of role.Server names) own_name peer_name start.server_first start.server_clock object version) ((first positions).signals place)
 unfolding new_host keeping created all_said
-begun_seen names start own_name peer_name object version place is_strict positions fit linked told = record {
+begun_seen names start own_name peer_name object version place positions fit linked told = record {
   at_end = fit.settled_at;
   told = record {
     steady = record { outside = told.steady.outside; idle = told.steady.idle };
@@ -386,7 +385,7 @@ shows due ends host signal fit seen other = by (is_open ends.server.link.phase) 
   now = reading_of ends.server.clock
 
   until : ℕ
-  until = restrictive_from (host_of (hosted_on ends host))
+  until = alive_until ends.server.link
 
   last : sent.Aspect
   last = last_indicated (commands_of ends.server.taken) Stop

@@ -1,5 +1,5 @@
 -- The two ends of a host's link.
-use Rattle.std.proofs.Common.{◌≡◌, ◌≤◌, ◌+◌, ◌*◌, ◌/◌, ℕ, Bool, true, false, nat_le, nat_lt, ◌&&◌, if◌then◌else◌, lit<, List, [], ◌∷◌, arith, refl, ap, sym, ◌∙◌}
+use Rattle.std.proofs.Common.{◌≡◌, ◌≤◌, ◌+◌, ◌*◌, ◌/◌, ℕ, Bool, true, false, nat_le, nat_lt, ◌&&◌, if◌then◌else◌, lit<, List, [], ◌∷◌, arith, refl, ap, sym, ◌∙◌, subst}
 use Rattle.std.proofs.Math.Nat.{div-mul-le_self}
 use Rattle.std.proofs.lemmas.Nat.{le-div}
 use Rattle.std.proofs.lemmas.Bool.{true≢false, false≢true}
@@ -11,10 +11,14 @@ use Rattle.rasta_core.specs.phase.Phase.{Phase}
 use Rattle.rasta_core.specs.phase.Phase.TheVariants as phase
 use Rattle.rasta_core.specs.phase.State.TheVariants as state
 use Rattle.rasta_core.specs.identity.Role.TheVariants as role
-use Rattle.rasta_core.specs.Ends.{EndState, end_later, reading_of}
+use Rattle.rasta_core.specs.Ends as calls
+use Rattle.rasta_core.specs.Ends.{EndState, end_after, end_later, newer, outcome, reading_of}
 use Rattle.rasta_core.specs.Run.{Ends, called, later}
-use Rattle.object_host.specs.Host.{HostState, LinkCall}
-use Rattle.object_host_laws.specs.World.{as_call, called_all}
+use Rattle.object_host.specs.Host.{HostState, LinkCall, Ticks, Closes, Sends, Receives}
+use Rattle.object_host.specs.Made.{AreCallsFor, AreOwn}
+use Rattle.object_host.specs.declared.input.Input.{Input}
+use Rattle.object_host.specs.declared.input.Input.TheVariants as inputs
+use Rattle.object_host_laws.specs.World.{as_call, called_all, entering}
 use Rattle.simulator_machine.specs.Link.{Server, Before, In, Gone}
 use Rattle.std.specs.Prelude.{Some, ◌==◌}
 use Rattle.simulator_move_laws.specs.LinkMoves.{LinkGoes, moves_by, server_moves}
@@ -87,6 +91,27 @@ pub client_stays : (connection : ℕ) (made : List LinkCall) (ends : Ends) → (
 unfolding called_all called
 client_stays connection [] ends = refl
 client_stays connection (call ∷ others) ends = client_stays connection others (called role.Server (as_call connection call) ends)
+
+own_connection : (connection : ℕ) (made : List LinkCall) (ends : Ends) → AreOwn made → (called_all connection made ends).server.connection ≡ ends.server.connection
+unfolding called_all called outcome end_after
+own_connection connection [] ends own = refl
+own_connection connection (Ticks ∷ others) ends own = own_connection connection others (called role.Server (as_call connection Ticks) ends) own.1
+own_connection connection (Closes why ∷ others) ends own = own_connection connection others (called role.Server (as_call connection (Closes why)) ends) own.1
+own_connection connection (Sends item ∷ others) ends own = own_connection connection others (called role.Server (as_call connection (Sends item)) ends) own.1
+own_connection connection (Receives bytes ∷ others) ends own = absurd own.0
+
+received_connection : (connection : ℕ) (bytes : List ℕ) (others : List LinkCall) (ends : Ends) → AreOwn others →
+    (called_all connection (Receives bytes ∷ others) ends).server.connection ≡ newer (outcome (calls.Receives bytes connection) ends.moment ends.server).enters ends.server.connection
+unfolding called_all called outcome end_after
+received_connection connection bytes others ends own = own_connection connection others (called role.Server (as_call connection (Receives bytes)) ends) own
+
+pub connection_after : (connection : ℕ) (input : Input) (made : List LinkCall) (ends : Ends) → AreCallsFor input made →
+    (called_all connection made ends).server.connection ≡ newer (entering input connection ends) ends.server.connection
+connection_after connection inputs.Tick made ends own = own_connection connection made ends own
+connection_after connection (inputs.Datagram bytes) made ends first =
+    subst (λ cs. (called_all connection cs ends).server.connection ≡ newer (entering (inputs.Datagram bytes) connection ends) ends.server.connection) (sym first.1)
+    (received_connection connection bytes.now first.0 ends first.2)
+connection_after connection (inputs.Sense sense) made ends own = own_connection connection made ends own
 
 -- a server's moves begin no connection of the client
 pub server_opens_none : (old new : Server) → OpensNone (server_moves old new)

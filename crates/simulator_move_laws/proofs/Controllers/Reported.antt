@@ -1,11 +1,11 @@
 -- What a step leaves of a point's host.
-use Rattle.std.proofs.Common.{◌≡◌, ℕ, Bool, List, [], ◌++◌, refl, ap, sym, ◌∙◌, subst}
+use Rattle.std.proofs.Common.{◌≡◌, ℕ, List, [], ◌++◌, refl, ap, sym, ◌∙◌, subst}
 use Rattle.std.proofs.lemmas.List.{append-nil}
 use Rattle.sci_telegram.specs.declared.telegram.Telegram.{Telegram}
 use Rattle.rasta_core.specs.Clock.{settled}
 use Rattle.rasta_core.specs.Ends.{kept, reading_of}
 use Rattle.rasta_core.specs.Run.{Ends}
-use Rattle.object_host.specs.Host.{HostState, HostSoFar, restrictive_from}
+use Rattle.object_host.specs.Host.{HostState, HostSoFar}
 use Rattle.object_host.specs.Hosted.{IsNamedAs}
 use Rattle.object_host.specs.Made.{commands_of}
 use Rattle.object_host.specs.Step.{host_step}
@@ -37,22 +37,21 @@ module _
         in let after : IsReported (stepped point_behaviour input connection world) = kept_law (WorldSteps input connection) world fit.settled_at reported
         in let acted = acted_law input connection ends (host_of world) ends.server.taken (commands_of ends.server.taken) refl fit.settled_at
         (record { dropped = []; beginning = sym (append-nil ends.server.taken); whole = λ _. refl; told_is = refl })
-        in let named : List ℕ → List ℕ → ℕ → Bool → HostState PointState = λ own peer version strict.
-        record { link = new.server.link; caught_up_until = part.host.caught_up_until; stage = part.host.stage; object = part.host.object; own_name = own; peer_name = peer; version = version; is_strict = strict }
+        in let named : List ℕ → List ℕ → ℕ → HostState PointState = λ own peer version.
+        record { link = new.server.link; stage = part.host.stage; object = part.host.object; own_name = own; peer_name = peer; version = version }
         in let Reporting : List Telegram → HostState PointState → Type 0 = λ telegrams now. theorem.IsReporting new.server.given telegrams now
         in record {
           steady = record { outside = after.steady.outside; idle = after.steady.idle };
-          until = subst (λ b. part.host.object.until ≡ restrictive_from (named part.host.own_name part.host.peer_name part.host.version b)) (sym names.is_strict) after.until;
+          until = after.until;
           answered = after.answered;
           inside = λ opened.
               let telegrams = told_since (entering input connection ends) (commands_of ends.server.taken) ++ part.told
               in let same : telegrams ≡ commands_of new.server.taken =
               acted.told_is ∙ ap commands_of (sym (acted.beginning ∙ ap (λ xs. (kept (entering input connection ends) ends.server.taken ++ part.acted) ++ xs) (acted.whole opened)
               ∙ append-nil (kept (entering input connection ends) ends.server.taken ++ part.acted)))
-              in subst (λ ts. Reporting ts (named part.host.own_name part.host.peer_name part.host.version part.host.is_strict)) same
-              (subst (λ b. Reporting telegrams (named part.host.own_name part.host.peer_name part.host.version b)) (sym names.is_strict)
-              (subst (λ v. Reporting telegrams (named part.host.own_name part.host.peer_name v host.is_strict)) (sym names.version)
-              (subst (λ p. Reporting telegrams (named part.host.own_name p host.version host.is_strict)) (sym names.peer_name)
-              (subst (λ o. Reporting telegrams (named o host.peer_name host.version host.is_strict)) (sym names.own_name) (after.inside opened)))));
+              in subst (λ ts. Reporting ts (named part.host.own_name part.host.peer_name part.host.version)) same
+              (subst (λ v. Reporting telegrams (named part.host.own_name part.host.peer_name v)) (sym names.version)
+              (subst (λ p. Reporting telegrams (named part.host.own_name p host.version)) (sym names.peer_name)
+              (subst (λ o. Reporting telegrams (named o host.peer_name host.version)) (sym names.own_name) (after.inside opened))));
           late = after.late;
         }

@@ -1,12 +1,12 @@
 -- Every step of a point's host is a list of moves of the machine's point.
-use Rattle.std.proofs.Common.{◌≡◌, ◌⊎◌, ◌&&◌, ℕ, inl, inr, Bool, true, false, List, [], ◌∷◌, ◌++◌, map, refl, ap, sym, ◌∙◌, subst}
+use Rattle.std.proofs.Common.{◌≡◌, ℕ, inl, inr, Bool, true, false, List, [], ◌∷◌, ◌++◌, map, refl, ap, sym, ◌∙◌, subst}
 use Rattle.std.specs.Prelude.{◌<◌, ◌≢◌, Option, Some, None, is_some}
 use Rattle.std.proofs.lemmas.Bool.{true≢false, false≢true}
 use Rattle.sci_telegram.specs.Names.{IsName}
 use Rattle.sci_telegram.specs.Telegrams.{IsTelegram, writing}
 use Rattle.sci_telegram.specs.declared.message.Side as told
 use Rattle.sci_telegram.specs.declared.telegram.Telegram.{Telegram}
-use Rattle.rasta_core.specs.State.{LinkState, is_open}
+use Rattle.rasta_core.specs.State.{is_open}
 use Rattle.rasta_core.specs.Ends.{EndState, newer, reading_of}
 use Rattle.rasta_core.specs.Run.{Ends}
 use Rattle.object_host.specs.Host.{HostState, HostSoFar}
@@ -15,18 +15,17 @@ use Rattle.object_host.specs.declared.input.Input.{Input}
 use Rattle.object_host_laws.specs.World.{called_all, entering, host_of}
 use Rattle.point_ctl.specs.declared.progress.Progress.TheVariants.{Answered}
 use Rattle.point_ctl.specs.Drive.{PointState, drives}
-use Rattle.object_host_laws.specs.Point.{IsFound, found_by, is_moving, link_found, position_told}
+use Rattle.object_host_laws.specs.Point.{IsFound, found_by, is_moving, position_told}
 use Rattle.simulator_machine.specs.Link.{Before, LinkMove, Enters, link_after}
 use Rattle.simulator_machine.specs.Point.{Point, PointLink}
 use Rattle.simulator_machine.specs.Chains.{LinkMayChain, PointMayChain, link_chained, point_chained}
 use Rattle.simulator_machine.specs.Invariant.{IsPointSound}
-use Rattle.simulator_move_laws.specs.Items.{moves_in, position_seen, reports_in, reports_of}
+use Rattle.simulator_move_laws.specs.Items.{moves_in, reports_in, reports_of}
 use Rattle.simulator_move_laws.specs.LinkMoves.{server_moves}
 use Rattle.simulator_move_laws.specs.EndsSeen.{server_of}
 use Rattle.simulator_move_laws.specs.Ends.{AreFit, Steps, hosted_on}
-use Rattle.simulator_move_laws.specs.Point.{AreSaid, IsMovedDriven, IsNamed, IsPointSeen, PointGoes}
-use Rattle.simulator_move_laws.proofs.Controllers.Behind.{IsBehindAt, IsFoundThere, goes_then, standing_host, standing_point, standing_seen}
-use Rattle.simulator_move_laws.proofs.Controllers.Moves.{reach_leads}
+use Rattle.simulator_move_laws.specs.Point.{AreSaid, IsMovedDriven, IsPointSeen, PointGoes}
+use Rattle.simulator_move_laws.proofs.Controllers.Moves.{one}
 use Rattle.simulator_move_laws.proofs.Controllers.Places.{gone_where_closed, in_where_open, server_opens_none}
 use Rattle.simulator_move_laws.proofs.Controllers.Starts.{starts_entering, starts_inside}
 use Rattle.simulator_move_laws.proofs.Controllers.KnownPoints.{IsStep, inside_goes}
@@ -51,18 +50,12 @@ module _
         (sound : IsPointSound point) (seen : IsPointSeen ends host point) (steps : Steps input connection ends (called_all connection part.calls ends))
         (driven_law : (side : told.Side) → drives (reading_of ends.server.clock) host.object ≡ Some side → (is_open ends.server.link.phase ≡ true) × (is_moving host.object ≡ true))
         (moves : IsMovedDriven ends input host) (made : IsStep input connection ends host part)
-        (finds : IsFoundThere (reading_of ends.server.clock) (host_of (hosted_on ends host)))
-        (found_inside : is_open (link_found (reading_of ends.server.clock) (host_of (hosted_on ends host))).phase ≡ true
-        → IsFound (reading_of ends.server.clock) ends.server.given (commands_of ends.server.taken) (host_of (hosted_on ends host)))
-        (found_outside : is_open (link_found (reading_of ends.server.clock) (host_of (hosted_on ends host))).phase ≡ false → IsFound (reading_of ends.server.clock) [] [] (host_of (hosted_on ends host)))
-        (found_answered : is_open (link_found (reading_of ends.server.clock) (host_of (hosted_on ends host))).phase ≡ false
-        → (found_by (reading_of ends.server.clock) (host_of (hosted_on ends host))).progress ≡ Answered)
+        (found_inside : is_open ends.server.link.phase ≡ true → IsFound (reading_of ends.server.clock) ends.server.given (commands_of ends.server.taken) (host_of (hosted_on ends host)))
+        (found_outside : is_open ends.server.link.phase ≡ false → IsFound (reading_of ends.server.clock) [] [] (host_of (hosted_on ends host)))
+        (found_answered : is_open ends.server.link.phase ≡ false → (found_by (reading_of ends.server.clock) (host_of (hosted_on ends host))).progress ≡ Answered)
         (stays_out : entering input connection ends ≡ None → is_open ends.server.link.phase ≡ false → is_open (called_all connection part.calls ends).server.link.phase ≡ false)
         (takes_none : entering input connection ends ≡ None → is_open ends.server.link.phase ≡ false → (called_all connection part.calls ends).server.taken ≡ ends.server.taken)
         (gives_none : entering input connection ends ≡ None → is_open ends.server.link.phase ≡ false → (called_all connection part.calls ends).server.given ≡ ends.server.given)
-        (closes : IsBehindAt (reading_of ends.server.clock) (host_of (hosted_on ends host)) → is_open (called_all connection part.calls ends).server.link.phase ≡ false)
-        (takes_none_behind : IsBehindAt (reading_of ends.server.clock) (host_of (hosted_on ends host)) → (called_all connection part.calls ends).server.taken ≡ ends.server.taken)
-        (gives_none_behind : IsBehindAt (reading_of ends.server.clock) (host_of (hosted_on ends host)) → (called_all connection part.calls ends).server.given ≡ ends.server.given)
       where
         abbrev new : Ends
         new = called_all connection part.calls ends
@@ -78,52 +71,21 @@ module _
           by None is driving = absurd (false≢true (sym (ap is_some is) ∙ driving))
           by (Some side) is driving = absurd (true≢false (sym (driven_law side is).0 ∙ closed))
 
-        named_after : IsNamed part.host
-        named_after = record {
-          own = subst IsName (sym made.names.own_name) seen.named.own;
-          peer = subst IsName (sym made.names.peer_name) seen.named.peer;
-          version = subst (λ v. v < 256) (sym made.names.version) seen.named.version;
-        }
-
-        -- a step that enters no connection, and leaves the controller in none
-        out : (before : HostState PointState) (from : Point) → IsPointSeen ends before from → part.host.object.sensed ≡ before.object.sensed → entering input connection ends ≡ None →
-            is_open new.server.link.phase ≡ false → new.server.taken ≡ ends.server.taken → new.server.given ≡ ends.server.given → PointGoes from (IsPointSeen new part.host)
-        out before from seen_so stands none closed takes gives =
-            linked_seen linked_may linked_link (server_moves (server_of ends) (server_of new)) ends new before part.host from steps.fit steps.fit_after
-            (server_opens_none (server_of ends) (server_of new)) steps.goes seen_so made.at_end named_after
-            (subst (AreSaid part.host.own_name part.host.peer_name) (sym gives) (said_by_same host part.host ends.server.given made.names.own_name made.names.peer_name seen.said))
-            made.reported (ap (λ (e : EndState). e.given) made.client_is) takes
-            (reports_stay ends new steps.fit steps.fit_after (ap (λ (e : EndState). e.connection) made.client_is)
-            (made.connection_is ∙ ap (λ (e : Option ℕ). newer e ends.server.connection) none) gives
-            (λ opened. absurd (true≢false (sym opened ∙ closed))))
-            stands (λ opened. absurd (true≢false (sym opened ∙ closed)))
-
         outside : entering input connection ends ≡ None → is_open ends.server.link.phase ≡ false → PointGoes point (IsPointSeen new part.host)
-        outside none closed = out host point seen (stands_outside closed) none (stays_out none closed) (takes_none none closed) (gives_none none closed)
-
-        -- a controller that isn't caught up any more leaves the connection; until then its point may be driven to another position
-        behind : IsBehindAt (reading_of ends.server.clock) (host_of (hosted_on ends host)) → entering input connection ends ≡ None → PointGoes point (IsPointSeen new part.host)
-        behind is none =
-            goes_then point (standing_point (position_told input host.object.sensed) point) (reach_leads (position_seen (position_told input host.object.sensed)) point reaches) refl
-            (out (standing_host (position_told input host.object.sensed) host) (standing_point (position_told input host.object.sensed) point)
-            (standing_seen (position_told input host.object.sensed) ends host point seen) (made.step.stands_after ∙ made.step.stands) none (closes is) (takes_none_behind is) (gives_none_behind is))
-          where
-            reaches : (position_seen (position_told input host.object.sensed) ≡ point.position) ⊎ (point.driven ≡ true)
-            reaches = elim moves [
-              | inl same ↦ inl (ap position_seen same ∙ sym seen.position)
-              | inr driving ↦ inr (by (drives (reading_of ends.server.clock) host.object) refl driving)
-            ] where
-              by : (side : Option told.Side) → drives (reading_of ends.server.clock) host.object ≡ side → is_some (drives (reading_of ends.server.clock) host.object) ≡ true → point.driven ≡ true
-              by None is driving = absurd (false≢true (sym (ap is_some is) ∙ driving))
-              by (Some side) is driving =
-                  let driven = driven_law side is
-                  in seen.driven ∙ ap (λ b. b && is_moving host.object) driven.0 ∙ driven.1
-
-        found_closed : is_open ends.server.link.phase ≡ false → is_open (link_found (reading_of ends.server.clock) (host_of (hosted_on ends host))).phase ≡ false
-        found_closed closed = elim finds [
-          | inl same ↦ ap (λ (l : LinkState). is_open l.phase) same ∙ closed
-          | inr both ↦ absurd (true≢false (sym both.1 ∙ closed))
-        ]
+        outside none closed =
+            linked_seen linked_may linked_link (server_moves (server_of ends) (server_of new)) ends new host part.host point steps.fit steps.fit_after
+            (server_opens_none (server_of ends) (server_of new)) steps.goes seen made.at_end
+            (record {
+              own = subst IsName (sym made.names.own_name) seen.named.own;
+              peer = subst IsName (sym made.names.peer_name) seen.named.peer;
+              version = subst (λ v. v < 256) (sym made.names.version) seen.named.version;
+            })
+            (subst (AreSaid part.host.own_name part.host.peer_name) (sym (gives_none none closed)) (said_by_same host part.host ends.server.given made.names.own_name made.names.peer_name seen.said))
+            made.reported (ap (λ (e : EndState). e.given) made.client_is) (takes_none none closed)
+            (reports_stay ends new steps.fit steps.fit_after (ap (λ (e : EndState). e.connection) made.client_is)
+            (made.connection_is ∙ ap (λ (e : Option ℕ). newer e ends.server.connection) none) (gives_none none closed)
+            (λ opened. absurd (true≢false (sym opened ∙ stays_out none closed))))
+            (stands_outside closed) (λ opened. absurd (true≢false (sym opened ∙ stays_out none closed)))
 
         entered : (one : ℕ) → entering input connection ends ≡ Some one → is_open ends.server.link.phase ≡ false → PointGoes point (IsPointSeen new part.host)
         entered one some closed =
@@ -134,14 +96,12 @@ module _
             )
             in inside_goes moves_join reports_join reports_written input connection ends host point part (Some one) (record point { link = link_after Enters point.link }) seen steps driven_law moves made some
             (starts_entering input connection ends host point part sound seen steps made.client_is made.connection_is one closed some
-            (not_before new steps.fit_after in_one) (found_answered (found_closed closed)) (found_outside (found_closed closed)))
+            (not_before new steps.fit_after in_one) (found_answered closed) (found_outside closed))
 
         stayed : entering input connection ends ≡ None → is_open ends.server.link.phase ≡ true → PointGoes point (IsPointSeen new part.host)
-        stayed none opened = elim finds [
-          | inl same ↦ inside_goes moves_join reports_join reports_written input connection ends host point part None point seen steps driven_law moves made none
-              (starts_inside input connection ends host point part sound seen steps made.client_is made.connection_is opened none (found_inside (ap (λ (l : LinkState). is_open l.phase) same ∙ opened)))
-          | inr both ↦ behind both.0 none
-        ]
+        stayed none opened =
+            inside_goes moves_join reports_join reports_written input connection ends host point part None point seen steps driven_law moves made none
+            (starts_inside input connection ends host point part sound seen steps made.client_is made.connection_is opened none (found_inside opened))
 
         pub point_goes : PointGoes point (IsPointSeen new part.host)
         point_goes = by (is_open ends.server.link.phase) (entering input connection ends) refl refl where

@@ -177,7 +177,7 @@ module _
         }
 
     pub restarted_reported : (clock first : ℕ) (object : PointState) (ends : Ends) (host : HostState PointState) → AreFit ends → IsReported (hosted_on ends host) →
-        IsReported (hosted_on (restarted role.Server clock first ends) (new_host point_behaviour ends.server.link.identity host.own_name host.peer_name first clock object host.version host.is_strict))
+        IsReported (hosted_on (restarted role.Server clock first ends) (new_host point_behaviour ends.server.link.identity host.own_name host.peer_name first clock object host.version))
     unfolding happened restarted end_restarted host_restarted new_host keeping created
     restarted_reported clock first object ends host fit reported =
         let after : IsReported (happened point_behaviour (HostRestarts clock first object) (hosted_on ends host)) = kept_law (HostRestarts clock first object) (hosted_on ends host) fit.settled_at reported
@@ -205,13 +205,13 @@ module _
 
     pub restarted_seen : (clock first : ℕ) (object : PointState) (ends : Ends) (host : HostState PointState) (point : Point) → AreFit ends → AreFit (restarted role.Server clock first ends) →
         object.sensed ≡ host.object.sensed → LinkGoes (moves_by false (is_open ends.server.link.phase) false) (represented ends) (represented (restarted role.Server clock first ends)) → IsPointSeen ends host point →
-        IsReported (hosted_on (restarted role.Server clock first ends) (new_host point_behaviour ends.server.link.identity host.own_name host.peer_name first clock object host.version host.is_strict)) →
+        IsReported (hosted_on (restarted role.Server clock first ends) (new_host point_behaviour ends.server.link.identity host.own_name host.peer_name first clock object host.version)) →
         PointGoes point (IsPointSeen (restarted role.Server clock first ends)
-        (new_host point_behaviour ends.server.link.identity host.own_name host.peer_name first clock object host.version host.is_strict))
+        (new_host point_behaviour ends.server.link.identity host.own_name host.peer_name first clock object host.version))
     unfolding restarted end_restarted new_host keeping created
     restarted_seen clock first object ends host point fit fit_after stands goes seen reported =
         linked_seen linked_may linked_link (moves_by false (is_open ends.server.link.phase) false) ends (restarted role.Server clock first ends) host
-        (new_host point_behaviour ends.server.link.identity host.own_name host.peer_name first clock object host.version host.is_strict) point fit fit_after
+        (new_host point_behaviour ends.server.link.identity host.own_name host.peer_name first clock object host.version) point fit fit_after
         (leaves_opens_none (is_open ends.server.link.phase)) goes seen fit_after.settled_at (record { own = seen.named.own; peer = seen.named.peer; version = seen.named.version }) seen.said reported refl refl
         (reports_stay ends (restarted role.Server clock first ends) fit fit_after refl refl refl (λ opened. absurd (false≢true opened))) stands (λ opened. absurd (false≢true opened))
 
@@ -263,12 +263,12 @@ module _
 
 -- ---- the beginning
 
-pub begun_seen : (names : Names) (start : Start) (own_name peer_name : List ℕ) (object : PointState) (version place : ℕ) (is_strict : Bool) (positions : ℕ → Position) → AreFit (started names start) →
+pub begun_seen : (names : Names) (start : Start) (own_name peer_name : List ℕ) (object : PointState) (version place : ℕ) (positions : ℕ → Position) → AreFit (started names start) →
     IsName own_name → IsName peer_name → version < 256 → positions place ≡ position_seen object.sensed → represented (started names start) ≡ unlinked →
-    IsReported (begun point_behaviour names start own_name peer_name object version is_strict) →
-    IsPointSeen (started names start) (new_host point_behaviour (identity_of role.Server names) own_name peer_name start.server_first start.server_clock object version is_strict) ((first positions).points place)
+    IsReported (begun point_behaviour names start own_name peer_name object version) →
+    IsPointSeen (started names start) (new_host point_behaviour (identity_of role.Server names) own_name peer_name start.server_first start.server_clock object version) ((first positions).points place)
 unfolding new_host keeping created all_said
-begun_seen names start own_name peer_name object version place is_strict positions fit own peer small position linked reported = record {
+begun_seen names start own_name peer_name object version place positions fit own peer small position linked reported = record {
   at_end = fit.settled_at;
   named = record { own = own; peer = peer; version = small };
   reported = record {

@@ -139,13 +139,13 @@ commands_on now input client items given of_point heard outbox command stands up
         (sym (ap (λ (list : List Indication). heard + length list) posted.heard ∙ plus_none heard)) (told of);
   }
 
-  ended : Standing now input client.link items client.peer (given ++ command ∷ []) of_point heard (ending now sent) × (is_outside (ending now sent).client.stage ≡ not (is_up (ending now sent).client.link.phase))
+  ended : Standing now input client.link items client.peer (given ++ command ∷ []) of_point heard (ending sent) × (is_outside (ending sent).client.stage ≡ not (is_up (ending sent).client.link.phase))
   ended = ends now input client.link items client.peer (given ++ command ∷ []) of_point heard sent standing (λ up. inside_ready (stage_after_command command client.stage) (ready_command command client.stage ready))
 
-  same_link : (ending now sent).client.link ≡ sent.client.link
+  same_link : (ending sent).client.link ≡ sent.client.link
   same_link = fallen_link sent.client
 
-  done : Commanded now input client.link items client.peer given of_point heard command (ending now sent)
+  done : Commanded now input client.link items client.peer given of_point heard command (ending sent)
   done = record {
     stands = ended.0;
     outside = ended.1;

@@ -8,7 +8,7 @@ use Rattle.ixl_spec.specs.rasta_core.State.{LinkState, is_client, is_open, is_up
 use Rattle.ixl_spec.specs.ixl_client.Client.{ClientState, IsClient, PeerState, is_outside, is_ready}
 use Rattle.ixl_spec.specs.ixl_client.Made.{link_after}
 use Rattle.ixl_spec.specs.ixl_client.ClientSoFar.{LinkCall, Opens, Ticks, Closes, Sends, Receives, begun, call_made, calling}
-use Rattle.ixl_spec.specs.ixl_client.Step.{fallen, ticking, watched}
+use Rattle.ixl_spec.specs.ixl_client.Step.{fallen, ticking}
 use Rattle.ixl_spec.specs.ixl_client.declared.command.Command.{Command}
 use Rattle.ixl_spec.specs.ixl_client.declared.stage.Stage.TheVariants as stage
 use Rattle.ixl_spec.specs.Step.{Input}
@@ -29,7 +29,7 @@ pub ticking_calls : (now : ℕ) (client : ClientState) (outbox : OutboxState) �
 unfolding ticking calling
 ticking_calls now client outbox = refl
 
-pub ticking_client : (now : ℕ) (client : ClientState) (outbox : OutboxState) → (ticking now (begun client outbox)).client ≡ watched now (fallen (record client { link = ticked_link now client.link }))
+pub ticking_client : (now : ℕ) (client : ClientState) (outbox : OutboxState) → (ticking now (begun client outbox)).client ≡ fallen (record client { link = ticked_link now client.link })
 unfolding ticking calling
 ticking_client now client outbox = refl
 
@@ -88,7 +88,7 @@ begins_where_opened now input peer calls start link are made =
 module _ (now : ℕ) (client : ClientState) (link : LinkState) (goes : Goes client.link link) (risen : is_up link.phase ≡ true → is_up client.link.phase ≡ true)
     (alive : is_open client.link.phase ≡ true → is_inside now client.link ≡ true) where
   abbrev pub went : ClientState
-  went = watched now (fallen (record client { link = link }))
+  went = fallen (record client { link = link })
 
   pub went_link : went.link ≡ link
   went_link = fallen_link (record client { link = link })
@@ -132,13 +132,12 @@ module _ (now : ℕ) (client : ClientState) (link : LinkState) (goes : Goes clie
 
 -- ---- the client, where its link opens
 
-pub anew_outside : (now : ℕ) (client : ClientState) (link : LinkState) → is_up link.phase ≡ false →
-    watched now (fallen (record client { link = link })) ≡ watched now (record client { link = link; stage = stage.Outside })
+pub anew_outside : (client : ClientState) (link : LinkState) → is_up link.phase ≡ false → fallen (record client { link = link }) ≡ record client { link = link; stage = stage.Outside }
 unfolding fallen
-anew_outside now client link down = rw down refl
+anew_outside client link down = rw down refl
 
 pub anew_fits : (now : ℕ) (client : ClientState) (link : LinkState) → is_up link.phase ≡ false → is_client link.identity.role ≡ true →
-    ClientFits now (watched now (record client { link = link; stage = stage.Outside })) no_items []
+    ClientFits now (record client { link = link; stage = stage.Outside }) no_items []
 anew_fits now client link down opens = record {
   steady = record { outside = sym (ap not down); opens = opens };
   given = λ inside. refl;

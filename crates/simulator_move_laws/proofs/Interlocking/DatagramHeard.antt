@@ -7,11 +7,10 @@ use Rattle.ixl_spec.specs.sci_telegram.declared.message.Initialisation.TheVarian
 use Rattle.ixl_spec.specs.rasta_core.Calls.{receiving}
 use Rattle.ixl_spec.specs.rasta_core.State.{LinkState, is_open, is_up}
 use Rattle.ixl_spec.specs.rasta_core.reason.Reason.{Reason}
-use Rattle.ixl_spec.specs.rasta_core.reason.Reason.TheVariants as reason
 use Rattle.ixl_spec.specs.ixl_client.Client.{ClientState, PeerState, is_outside, is_ready}
 use Rattle.ixl_spec.specs.ixl_client.Meaning.{is_in_turn, reports_changes}
 use Rattle.ixl_spec.specs.ixl_client.ClientSoFar.{Closes, Receives, ClientSoFar, calling}
-use Rattle.ixl_spec.specs.ixl_client.Step.{closing_behind, is_behind, acted_on, acting, acting_all, at_stage, ending, fallen, hearing, rising, saying, stage_after_report}
+use Rattle.ixl_spec.specs.ixl_client.Step.{acted_on, acting, acting_all, at_stage, ending, fallen, hearing, rising, saying, stage_after_report}
 use Rattle.ixl_spec.specs.ixl_client.declared.command.Command.{Command}
 use Rattle.ixl_spec.specs.ixl_client.declared.indication.Indication.{Indication}
 use Rattle.ixl_spec.specs.ixl_client.declared.stage.Stage.{Stage}
@@ -42,7 +41,7 @@ module _ (now : ℕ) (input : Input) (start : LinkState) (items : Items) (peer :
   Rests part = Standing now input start items peer commands of_point heard_before part
 
   -- a client whose link isn't up is outside
-  pub ends : (part : ClientSoFar) → Rests part → Risen part → Rests (ending now part) × (is_outside (ending now part).client.stage ≡ not (is_up (ending now part).client.link.phase))
+  pub ends : (part : ClientSoFar) → Rests part → Risen part → Rests (ending part) × (is_outside (ending part).client.stage ≡ not (is_up (ending part).client.link.phase))
   unfolding fallen
   ends part stands up = by_test (λ (client : ClientState). Stands now input start items peer commands of_point heard_before part.calls client.link client.peer client.stage (length part.heard)
       × (is_outside client.stage ≡ not (is_up client.link.phase))) (is_up part.client.link.phase) part.client (record part.client { stage = stage.Outside }) still fell
@@ -266,14 +265,3 @@ module _ (now : ℕ) (input : Input) (start : LinkState) (items : Items) (peer :
       (receipt_gives now input start items peer commands of_point heard_before bytes) stands
       in let acted = acts_all (receiving now bytes part.client.link).items (rising now received) (rises received begun) (risen received)
       in ends now input start items peer commands of_point heard_before (acting_all now (receiving now bytes part.client.link).items (rising now received)) acted.0 acted.1
-
-  -- before it hears a link that isn't caught up any more closes
-  pub closes_behind : (part : ClientSoFar) → In part → is_outside part.client.stage ≡ not (is_up part.client.link.phase)
-      → In (closing_behind now part) × (is_outside (closing_behind now part).client.stage ≡ not (is_up (closing_behind now part).client.link.phase))
-  unfolding closing_behind
-  closes_behind part stands out =
-      let closed : ClientSoFar = calling now (Closes reason.User) part
-      in by_test (λ (p : ClientSoFar). In p × (is_outside p.client.stage ≡ not (is_up p.client.link.phase))) (is_behind now part.client) (ending now closed) part
-      (λ e. ends now input start items peer commands of_point heard_before closed (stands_closed now input start items peer commands of_point heard_before reason.User part stands.runs)
-      (λ up. absurd (true≢false (sym up ∙ shut_is_down _ (closes_shut now input start items peer commands of_point heard_before reason.User part)))))
-      (λ e. (stands, out))

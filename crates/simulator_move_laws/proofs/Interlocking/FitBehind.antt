@@ -7,7 +7,7 @@ use Rattle.ixl_spec.specs.rasta_core.Outbox.{OutboxState}
 use Rattle.ixl_spec.specs.rasta_core.State.{LinkState, is_client, is_open, is_up}
 use Rattle.ixl_spec.specs.ixl_client.Client.{ClientState, is_ready}
 use Rattle.ixl_spec.specs.ixl_client.ClientSoFar.{Opens, Ticks, begun}
-use Rattle.ixl_spec.specs.ixl_client.Step.{commanding, fallen, hearing, ticking, watched}
+use Rattle.ixl_spec.specs.ixl_client.Step.{commanding, fallen, hearing, ticking}
 use Rattle.ixl_spec.specs.ixl_client.declared.command.Command.{Command}
 use Rattle.ixl_spec.specs.Step.{Datagram}
 use Rattle.simulator_move_laws.specs.Fits.{FitsBehind, IsAlive, commands_after_tick}
@@ -53,13 +53,13 @@ module _ (now : ℕ) (client : ClientState) (outbox : OutboxState) (items : Item
       link = ticked_link now client.link
 
       went : ClientState
-      went = watched now (fallen (record client { link = link }))
+      went = fallen (record client { link = link })
 
       Goal : Bool → Type 0
       Goal b = ClientFits now went (if b then no_items else items) (if b then [] else commands)
 
       anew : (it : TickedAnew now client.link) → Goal true
-      anew it = subst (λ (c : ClientState). ClientFits now c no_items []) (sym (anew_outside now client link (ap is_up it.phase)))
+      anew it = subst (λ (c : ClientState). ClientFits now c no_items []) (sym (anew_outside client link (ap is_up it.phase)))
           (anew_fits now client link (ap is_up it.phase) (ap (λ i. is_client i.role) it.identity ∙ fits.steady.opens))
 
       on : (it : TickedOn now client.link) → Goal false

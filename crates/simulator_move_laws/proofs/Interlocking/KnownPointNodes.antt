@@ -6,15 +6,15 @@ use Rattle.std.proofs.lemmas.List.{append-nil, map-append}
 use Rattle.ixl_spec.specs.sci_telegram.declared.message.Side.{Side as TelegramSide}
 use Rattle.ixl_spec.specs.rasta_core.Clock.{settled}
 use Rattle.ixl_spec.specs.rasta_core.State.{LinkState, is_open, is_up}
-use Rattle.ixl_spec.specs.ixl_client.Client.{PeerState, is_outside, is_ready, ClientState}
+use Rattle.ixl_spec.specs.ixl_client.Client.{PeerState, is_outside, is_ready}
 use Rattle.ixl_spec.specs.ixl_client.ClientSoFar as client
-use Rattle.ixl_spec.specs.ixl_client.ClientSoFar.{LinkCall, Opens, Ticks, Closes, Sends, Receives, begun, call_made, calling}
-use Rattle.ixl_spec.specs.ixl_client.Step.{commanding, hearing, message_of, stage_after_command, closing_behind, ending, is_behind}
+use Rattle.ixl_spec.specs.ixl_client.ClientSoFar.{LinkCall, Opens, Ticks, Closes, Sends, Receives, begun, call_made}
+use Rattle.ixl_spec.specs.ixl_client.Step.{commanding, hearing, message_of, stage_after_command}
 use Rattle.ixl_spec.specs.ixl_client.declared.command.Command.TheVariants as commands
 use Rattle.ixl_spec.specs.ixl_client.declared.stage.Stage.TheVariants as stage
 use Rattle.ixl_spec.specs.StepSoFar.{Point, StepSoFar, all_below, giving_move, noted, known_point_after, with_known_point}
 use Rattle.ixl_spec.specs.State.{IxlState, KnownPointState}
-use Rattle.ixl_spec.specs.Step.{Datagram, Input, side_heard, side_of, known_point_hearing, known_point_closing}
+use Rattle.ixl_spec.specs.Step.{Datagram, Input, side_heard, side_of, known_point_hearing}
 use Rattle.simulator_machine.specs.Lists.{last_of}
 use Rattle.simulator_machine.specs.Point.{Point as MachinePoint, PointMove, Position, move_given, moves_given, reports_made}
 use Rattle.simulator_machine.specs.Machine.{Machine, with_point}
@@ -27,13 +27,13 @@ use Rattle.simulator_move_laws.specs.Sees.{Given}
 use Rattle.simulator_move_laws.specs.Telegrams.{AreHeard, item_of, position_seen, position_told, positions_told}
 use Rattle.simulator_move_laws.specs.Items.{moves_in, moves_of, said_by, side_seen}
 use Rattle.simulator_move_laws.specs.Totals.{IsReadable}
-use Rattle.simulator_move_laws.proofs.Interlocking.Totals.{calls_say, datagram_calls, no_moves, said_one, closing_calls}
+use Rattle.simulator_move_laws.proofs.Interlocking.Totals.{calls_say, datagram_calls, no_moves, said_one}
 use Rattle.simulator_move_laws.proofs.Interlocking.Tests.{by_test}
 use Rattle.simulator_move_laws.proofs.Interlocking.Places.{inside_open, open_inside}
 use Rattle.simulator_move_laws.proofs.Interlocking.Clients.{Standing, calls_go, calls_then, items_then, link_then}
 use Rattle.simulator_move_laws.proofs.Interlocking.Phases.{Goes, stays_open, up_is_open}
 use Rattle.ixl_spec.specs.ixl_client.Made.{link_after}
-use Rattle.simulator_move_laws.proofs.Interlocking.DatagramHeard.{hears, closes_behind}
+use Rattle.simulator_move_laws.proofs.Interlocking.DatagramHeard.{hears}
 use Rattle.simulator_move_laws.proofs.Interlocking.ClientFits.{Commanded, begins, commands_on}
 use Rattle.simulator_move_laws.specs.MachineSoFar.{During, Leads, KnownPointDuring}
 use Rattle.simulator_move_laws.proofs.Interlocking.KnownPoint.{NextKnownPoint, first_known_point, known_point_facts, known_point_next, known_point_next_from}
@@ -44,8 +44,6 @@ use Rattle.ixl_spec.specs.ixl_client.Made.{ActsOn, AreOwn, MakesAfterReceipt, to
 use Rattle.ixl_spec.specs.sci_telegram.TelegramRead.{reading}
 use Rattle.ixl_spec.specs.ixl_client.declared.indication.Indication.{Indication}
 use Rattle.ixl_spec.specs.rasta_core.Calls.{answer_to_send, receiving}
-use Rattle.ixl_spec.specs.rasta_core.Outbox.{OutboxState}
-use Rattle.ixl_spec.specs.rasta_core.reason.Reason.TheVariants as reason
 
 -- the last side heard is that of the last report
 side_last : (list : List Indication) (side : Option TelegramSide) (before : List Position) → last_of None before ≡ position_seen side →
@@ -367,73 +365,6 @@ module _ (now : ℕ) (input : Input) (table : Table) (ixl : IxlState) (given : G
       cases : (b : Bool) → is_inside now moved.client.link ≡ b → On (with_known_point place (known_point_after known_point.side (all_below (length part.ixl.routes)) moved.client) (noted (Point place) moved part))
       cases true e = known_point_next now input table ixl given machine far chain onward place known_point part new now_given moved known_point.side (all_below (length part.ixl.routes)) during is (λ first is_first was. goes_on first is_first was e)
       cases false e = known_point_next now input table ixl given machine far chain onward place known_point part new new moved known_point.side (all_below (length part.ixl.routes)) during is (λ first is_first was. closes first is_first was e)
-
-  -- ---- a link that isn't caught up any more closes
-
-  known_point_closing_is : (place : ℕ) (part : StepSoFar) (known_point : KnownPointState) → slice_get part.ixl.known_points place ≡ Some known_point →
-      known_point_closing now place part ≡ with_known_point place (known_point_after known_point.side known_point.moved (closing_behind now (begun known_point.client part.outbox)).client)
-      (noted (Point place) (closing_behind now (begun known_point.client part.outbox)) part)
-  unfolding known_point_closing
-  known_point_closing_is place part known_point is = rw is refl
-
-  known_point_closing_none : (place : ℕ) (part : StepSoFar) → slice_get part.ixl.known_points place ≡ None → known_point_closing now place part ≡ part
-  unfolding known_point_closing
-  known_point_closing_none place part is = rw is refl
-
-  -- it makes no call but the close, and hears nothing
-  closing_own : (one : ClientState) (outbox : OutboxState) → AreOwn (closing_behind now (begun one outbox)).calls × ((closing_behind now (begun one outbox)).heard ≡ [])
-  unfolding closing_behind calling
-  closing_own one outbox = by_test (λ (p : client.ClientSoFar). AreOwn p.calls × (p.heard ≡ [])) (is_behind now one) (ending now (calling now (Closes reason.User) (begun one outbox))) (begun one outbox)
-      (λ e. ((tt, tt), refl)) (λ e. (tt, refl))
-
-  pub known_point_closes : (place : ℕ) (part : StepSoFar) → On part → On (known_point_closing now place part)
-  known_point_closes place part (new, during) = cases (slice_get part.ixl.known_points place) refl where
-    some : (known_point : KnownPointState) → slice_get part.ixl.known_points place ≡ Some known_point →
-        On (with_known_point place (known_point_after known_point.side known_point.moved (closing_behind now (begun known_point.client part.outbox)).client) (noted (Point place) (closing_behind now (begun known_point.client part.outbox)) part))
-    some known_point is = known_point_next now input table ixl given machine far chain onward place known_point part new new shut_part known_point.side known_point.moved during is next where
-      shut_part : client.ClientSoFar
-      shut_part = closing_behind now (begun known_point.client part.outbox)
-
-      next : (first : KnownPointState) → slice_get ixl.known_points place ≡ Some first → Was part new place known_point first →
-          NextKnownPoint now input table ixl given machine far chain onward place known_point (items_so_far part place first) part new new shut_part known_point.side
-      next first is_first was = record {
-        commands = was.fits.commands;
-        counted = length (new.points place).heard;
-        stands = shut.0;
-        outside = shut.1;
-        moves = stays_so table new;
-        others = λ n other. refl;
-        signals = refl;
-        routes = refl;
-        holding = refl;
-        frozen = refl;
-        stays = record { server = refl; taken = refl; reports = refl; driven = refl; position = refl };
-        client = refl;
-        commanded = λ is still. was.fits.moves is;
-        told = λ is still. was.fits.told is ∙ ap (positions_told known_point.client.peer) (sym (own_taken shut_part.calls known_point.client.peer known_point.client.link items_here shut.0.runs.are own.0));
-        heard = λ is still. subst (λ n. AreHeard shut_part.client.stage n (length was.fits.commands))
-            (ap (λ (list : List Indication). length (new.points place).heard + length list) own.1 ∙ plus_nothing (length (new.points place).heard)) (shut.0.heard refl (inside_open now shut_part.client.link still));
-        last = λ is still risen. was.fits.last is;
-        totals = λ alive readable as_given. as_given ∙ sym (ap length (calls_say moves_of known_point.client.peer (no_moves known_point.client.peer readable) now shut_part.calls known_point.client.link items_here
-            (closing_calls now known_point.client part.outbox)));
-      } where
-        items_here : Items
-        items_here = items_so_far part place first
-
-        own : AreOwn shut_part.calls × (shut_part.heard ≡ [])
-        own = closing_own known_point.client part.outbox
-
-        plus_nothing : (n : ℕ) → n + 0 ≡ n
-        plus_nothing n = omega arith
-
-        shut : Standing now input known_point.client.link items_here known_point.client.peer was.fits.commands true (length (new.points place).heard) shut_part
-            × (is_outside shut_part.client.stage ≡ not (is_up shut_part.client.link.phase))
-        shut = closes_behind now input known_point.client.link items_here known_point.client.peer was.fits.commands true (length (new.points place).heard) (λ e. was.fits.peer) (begun known_point.client part.outbox)
-            (known_point_begins place first known_point part new was is_first).1 was.fits.client.steady.outside
-
-    cases : (s : Option KnownPointState) → slice_get part.ixl.known_points place ≡ s → On (known_point_closing now place part)
-    cases None is = subst On (sym (known_point_closing_none place part is)) (new, during)
-    cases (Some known_point) is = subst On (sym (known_point_closing_is place part known_point is)) (some known_point is)
 
   -- ---- a datagram
 

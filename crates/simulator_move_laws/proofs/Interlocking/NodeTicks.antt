@@ -11,7 +11,7 @@ use Rattle.ixl_spec.specs.rasta_core.State.{LinkState, is_client, is_open, is_up
 use Rattle.ixl_spec.specs.ixl_client.Client.{ClientState, PeerState}
 use Rattle.ixl_spec.specs.ixl_client.Made.{link_after, told_by_all}
 use Rattle.ixl_spec.specs.ixl_client.ClientSoFar.{LinkCall, Opens, Ticks, call_made}
-use Rattle.ixl_spec.specs.ixl_client.Step.{fallen, watched}
+use Rattle.ixl_spec.specs.ixl_client.Step.{fallen}
 use Rattle.ixl_spec.specs.ixl_client.declared.stage.Stage.TheVariants as stage
 use Rattle.ixl_spec.specs.StepSoFar.{known_signal_after, known_point_after}
 use Rattle.ixl_spec.specs.State.{IxlState, KnownSignalState, KnownPointState}
@@ -56,15 +56,15 @@ pub record PointComes (Is : MachinePoint → Type 0) (old : MachinePoint) : Type
   pub may : PointMayChain moves old
   pub is : Is (point_chained moves old)
 
-known_signal_anew : (now : ℕ) (aspect : Option TelegramAspect) (number : ℕ) (indicated : Option TelegramAspect) (client : ClientState) (link : LinkState) → is_up link.phase ≡ false →
-    known_signal_after aspect number indicated (watched now (fallen (record client { link = link }))) ≡ record { client = watched now (record client { link = link; stage = stage.Outside }); aspect = None; number = 0; indicated = None }
+known_signal_anew : (aspect : Option TelegramAspect) (number : ℕ) (indicated : Option TelegramAspect) (client : ClientState) (link : LinkState) → is_up link.phase ≡ false →
+    known_signal_after aspect number indicated (fallen (record client { link = link })) ≡ record { client = record client { link = link; stage = stage.Outside }; aspect = None; number = 0; indicated = None }
 unfolding known_signal_after
-known_signal_anew now aspect number indicated client link down = ap (known_signal_after aspect number indicated) (anew_outside now client link down)
+known_signal_anew aspect number indicated client link down = ap (known_signal_after aspect number indicated) (anew_outside client link down)
 
-known_point_anew : (now : ℕ) (side : Option TelegramSide) (moved : Places) (client : ClientState) (link : LinkState) → is_up link.phase ≡ false →
-    known_point_after side moved (watched now (fallen (record client { link = link }))) ≡ record { client = watched now (record client { link = link; stage = stage.Outside }); side = None; moved = empty }
+known_point_anew : (side : Option TelegramSide) (moved : Places) (client : ClientState) (link : LinkState) → is_up link.phase ≡ false →
+    known_point_after side moved (fallen (record client { link = link })) ≡ record { client = record client { link = link; stage = stage.Outside }; side = None; moved = empty }
 unfolding known_point_after
-known_point_anew now side moved client link down = ap (known_point_after side moved) (anew_outside now client link down)
+known_point_anew side moved client link down = ap (known_point_after side moved) (anew_outside client link down)
 
 none_told : (peer : PeerState) → [] ≡ positions_told peer []
 unfolding told_by_all
@@ -88,7 +88,7 @@ module _ (now : ℕ) (table : Table) (ixl : IxlState) (given : Given) (machine :
     pub known_signal_ticks : (place : ℕ) (first known_signal : KnownSignalState) (calls : List LinkCall) (new : MachineSignal) → slice_get ixl.known_signals place ≡ Some first →
         KnownSignalDuring now Tick table ixl given machine first (given.signals place) calls known_signal (machine.signals place) new →
         SignalComes (KnownSignalBehind now Tick table ixl given machine first (given.signals place) (calls ++ Ticks ∷ Opens ∷ [])
-        (known_signal_after known_signal.aspect known_signal.number known_signal.indicated (watched now (fallen (record known_signal.client { link = ticked_link now known_signal.client.link })))) (machine.signals place)) new
+        (known_signal_after known_signal.aspect known_signal.number known_signal.indicated (fallen (record known_signal.client { link = ticked_link now known_signal.client.link }))) (machine.signals place)) new
     known_signal_ticks place first known_signal calls new is_first was = cases (opens now between) refl where
       start : LinkState
       start = settled now first.client.link
@@ -109,7 +109,7 @@ module _ (now : ℕ) (table : Table) (ixl : IxlState) (given : Given) (machine :
       link = ticked_link now known_signal.client.link
 
       client : ClientState
-      client = watched now (fallen (record known_signal.client { link = link }))
+      client = fallen (record known_signal.client { link = link })
 
       known_signal_now : KnownSignalState
       known_signal_now = known_signal_after known_signal.aspect known_signal.number known_signal.indicated client
@@ -209,7 +209,7 @@ module _ (now : ℕ) (table : Table) (ixl : IxlState) (given : Given) (machine :
           down = ap is_up it.phase
 
           fits : KnownSignalFits now known_signal_now no_items (signal_chained (SignalLink QuietEnds ∷ SignalLink LinkOpens ∷ []) new)
-          fits = subst (λ l. KnownSignalFits now l no_items (signal_chained (SignalLink QuietEnds ∷ SignalLink LinkOpens ∷ []) new)) (sym (known_signal_anew now known_signal.aspect known_signal.number known_signal.indicated known_signal.client link down)) (record {
+          fits = subst (λ l. KnownSignalFits now l no_items (signal_chained (SignalLink QuietEnds ∷ SignalLink LinkOpens ∷ []) new)) (sym (known_signal_anew known_signal.aspect known_signal.number known_signal.indicated known_signal.client link down)) (record {
             commands = [];
             client = anew_fits now known_signal.client link down (ap (λ i. is_client i.role) it.identity ∙ was.fits.client.steady.opens);
             place = sym it.place;
@@ -230,7 +230,7 @@ module _ (now : ℕ) (table : Table) (ixl : IxlState) (given : Given) (machine :
     pub known_point_ticks : (place : ℕ) (first known_point : KnownPointState) (calls : List LinkCall) (new : MachinePoint) → slice_get ixl.known_points place ≡ Some first →
         KnownPointDuring now Tick table ixl given machine first (given.points place) calls known_point (machine.points place) new →
         PointComes (KnownPointBehind now Tick table ixl given machine first (given.points place) (calls ++ Ticks ∷ Opens ∷ [])
-        (known_point_after known_point.side known_point.moved (watched now (fallen (record known_point.client { link = ticked_link now known_point.client.link })))) (machine.points place)) new
+        (known_point_after known_point.side known_point.moved (fallen (record known_point.client { link = ticked_link now known_point.client.link }))) (machine.points place)) new
     known_point_ticks place first known_point calls new is_first was = cases (opens now between) refl where
       start : LinkState
       start = settled now first.client.link
@@ -251,7 +251,7 @@ module _ (now : ℕ) (table : Table) (ixl : IxlState) (given : Given) (machine :
       link = ticked_link now known_point.client.link
 
       client : ClientState
-      client = watched now (fallen (record known_point.client { link = link }))
+      client = fallen (record known_point.client { link = link })
 
       known_point_now : KnownPointState
       known_point_now = known_point_after known_point.side known_point.moved client
@@ -357,7 +357,7 @@ module _ (now : ℕ) (table : Table) (ixl : IxlState) (given : Given) (machine :
           down = ap is_up it.phase
 
           fits : KnownPointFits now known_point_now no_items (point_chained (PointLink QuietEnds ∷ PointLink LinkOpens ∷ []) new)
-          fits = subst (λ l. KnownPointFits now l no_items (point_chained (PointLink QuietEnds ∷ PointLink LinkOpens ∷ []) new)) (sym (known_point_anew now known_point.side known_point.moved known_point.client link down)) (record {
+          fits = subst (λ l. KnownPointFits now l no_items (point_chained (PointLink QuietEnds ∷ PointLink LinkOpens ∷ []) new)) (sym (known_point_anew known_point.side known_point.moved known_point.client link down)) (record {
             commands = [];
             client = anew_fits now known_point.client link down (ap (λ i. is_client i.role) it.identity ∙ was.fits.client.steady.opens);
             peer = was.fits.peer;

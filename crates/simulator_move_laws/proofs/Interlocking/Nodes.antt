@@ -8,15 +8,15 @@ use Rattle.ixl_spec.specs.rasta_core.Clock.{settled}
 use Rattle.ixl_spec.specs.rasta_core.State.{is_open, is_up}
 use Rattle.ixl_spec.specs.ixl_client.Client.{PeerState, is_outside, is_ready}
 use Rattle.ixl_spec.specs.ixl_client.ClientSoFar as client
-use Rattle.ixl_spec.specs.ixl_client.ClientSoFar.{begun}
-use Rattle.ixl_spec.specs.ixl_client.Step.{commanding, hearing, message_of, closing_behind}
+use Rattle.ixl_spec.specs.ixl_client.ClientSoFar.{LinkCall, begun}
+use Rattle.ixl_spec.specs.ixl_client.Step.{commanding, hearing, message_of}
 use Rattle.ixl_spec.specs.ixl_client.declared.command.Command.{Command}
 use Rattle.ixl_spec.specs.ixl_client.declared.command.Command.TheVariants as commands
 use Rattle.ixl_spec.specs.ixl_client.declared.stage.Stage.{Stage}
 use Rattle.ixl_spec.specs.ixl_client.declared.stage.Stage.TheVariants as stage
 use Rattle.ixl_spec.specs.StepSoFar.{Signal, StepSoFar, giving_aspect, known_signal_after, noted, with_known_signal}
 use Rattle.ixl_spec.specs.State.{IxlState, KnownSignalState}
-use Rattle.ixl_spec.specs.Step.{Datagram, Input, indicated_heard, known_signal_hearing, known_signal_closing}
+use Rattle.ixl_spec.specs.Step.{Datagram, Input, indicated_heard, known_signal_hearing}
 use Rattle.simulator_machine.specs.Lists.{last_of}
 use Rattle.simulator_machine.specs.Signal.{Signal as MachineSignal, SignalMove, Stop, aspect_given, aspects_given}
 use Rattle.simulator_machine.specs.Machine.{Machine, with_signal}
@@ -30,10 +30,10 @@ use Rattle.simulator_move_laws.specs.Telegrams.{aspect_of, aspect_seen, aspects_
 use Rattle.simulator_move_laws.specs.Items.{aspects_in, said_by}
 use Rattle.simulator_move_laws.specs.Items.{aspects_of as said_aspects}
 use Rattle.simulator_move_laws.specs.Totals.{IsReadable}
-use Rattle.simulator_move_laws.proofs.Interlocking.Totals.{calls_say, datagram_calls, no_aspects, said_one, same_aspect, closing_calls}
+use Rattle.simulator_move_laws.proofs.Interlocking.Totals.{calls_say, datagram_calls, no_aspects, said_one, same_aspect}
 use Rattle.simulator_move_laws.proofs.Interlocking.Places.{inside_open, open_inside}
 use Rattle.simulator_move_laws.proofs.Interlocking.Clients.{Standing}
-use Rattle.simulator_move_laws.proofs.Interlocking.DatagramHeard.{hears, closes_behind}
+use Rattle.simulator_move_laws.proofs.Interlocking.DatagramHeard.{hears}
 use Rattle.simulator_move_laws.proofs.Interlocking.ClientFits.{Commanded, begins, commands_on}
 use Rattle.simulator_move_laws.specs.MachineSoFar.{During, KnownSignalDuring, Leads}
 use Rattle.simulator_move_laws.proofs.Interlocking.MachineSoFar.{NextKnownSignal, known_signal_facts, known_signal_next}
@@ -146,56 +146,6 @@ module _ (now : ℕ) (input : Input) (table : Table) (ixl : IxlState) (given : G
     cases : (l : Option KnownSignalState) → slice_get part.ixl.known_signals place ≡ l → On (known_signal_hearing now bytes place part)
     cases None is = subst On (sym (known_signal_hearing_none bytes place part is)) (new, during)
     cases (Some known_signal) is = subst On (sym (known_signal_hearing_is bytes place part known_signal is)) (some known_signal is)
-
-  -- ---- a link that isn't caught up any more closes
-
-  known_signal_closing_is : (place : ℕ) (part : StepSoFar) (known_signal : KnownSignalState) → slice_get part.ixl.known_signals place ≡ Some known_signal →
-      known_signal_closing now place part ≡ with_known_signal place (known_signal_after known_signal.aspect known_signal.number known_signal.indicated (closing_behind now (begun known_signal.client part.outbox)).client)
-      (noted (Signal place) (closing_behind now (begun known_signal.client part.outbox)) part)
-  unfolding known_signal_closing
-  known_signal_closing_is place part known_signal is = rw is refl
-
-  known_signal_closing_none : (place : ℕ) (part : StepSoFar) → slice_get part.ixl.known_signals place ≡ None → known_signal_closing now place part ≡ part
-  unfolding known_signal_closing
-  known_signal_closing_none place part is = rw is refl
-
-  pub known_signal_closes : (place : ℕ) (part : StepSoFar) → On part → On (known_signal_closing now place part)
-  known_signal_closes place part (new, during) = cases (slice_get part.ixl.known_signals place) refl where
-    some : (known_signal : KnownSignalState) → slice_get part.ixl.known_signals place ≡ Some known_signal →
-        On (with_known_signal place (known_signal_after known_signal.aspect known_signal.number known_signal.indicated (closing_behind now (begun known_signal.client part.outbox)).client)
-        (noted (Signal place) (closing_behind now (begun known_signal.client part.outbox)) part))
-    some known_signal is = known_signal_next now input table ixl given machine far chain onward place known_signal part new new done known_signal.aspect known_signal.number known_signal.indicated during is next where
-      done : client.ClientSoFar
-      done = closing_behind now (begun known_signal.client part.outbox)
-
-      next : (first : KnownSignalState) → slice_get ixl.known_signals place ≡ Some first →
-          KnownSignalDuring now input table ixl given machine first (given.signals place) (calls_at (Signal place) part.calls) known_signal (machine.signals place) (new.signals place) →
-          NextKnownSignal now input table ixl given machine far chain onward place known_signal (items_after now (calls_at (Signal place) part.calls) (settled now first.client.link) (given.signals place)) part new new done known_signal.aspect known_signal.number
-      next first is_first was = record {
-        commands = was.fits.commands;
-        stands = shut.0;
-        outside = shut.1;
-        moves = stays_so table new;
-        others = λ n other. refl;
-        points = refl;
-        routes = refl;
-        holding = refl;
-        frozen = refl;
-        stays = record { server = refl; done = refl };
-        client = refl;
-        aspects = λ inside still. was.fits.aspects inside;
-        last = λ inside still counted risen. was.fits.last inside;
-        totals = λ alive readable as_given. as_given ∙ sym (calls_say said_aspects known_signal.client.peer (no_aspects known_signal.client.peer readable) now done.calls known_signal.client.link
-            (items_after now (calls_at (Signal place) part.calls) (settled now first.client.link) (given.signals place)) (closing_calls now known_signal.client part.outbox));
-      } where
-        shut : Standing now input known_signal.client.link (items_after now (calls_at (Signal place) part.calls) (settled now first.client.link) (given.signals place)) known_signal.client.peer was.fits.commands false 0 done
-            × (is_outside done.client.stage ≡ not (is_up done.client.link.phase))
-        shut = closes_behind now input known_signal.client.link (items_after now (calls_at (Signal place) part.calls) (settled now first.client.link) (given.signals place)) known_signal.client.peer was.fits.commands false 0
-            (λ e. absurd (false≢true e)) (begun known_signal.client part.outbox) (known_signal_begins place first known_signal part new was is_first) was.fits.client.steady.outside
-
-    cases : (l : Option KnownSignalState) → slice_get part.ixl.known_signals place ≡ l → On (known_signal_closing now place part)
-    cases None is = subst On (sym (known_signal_closing_none place part is)) (new, during)
-    cases (Some known_signal) is = subst On (sym (known_signal_closing_is place part known_signal is)) (some known_signal is)
 
   -- ---- an aspect is given
 

@@ -4,10 +4,11 @@ use Rattle.std.specs.Prelude.{length}
 use Rattle.ixl_spec.specs.rasta_pdu.declared.key.Key.{Key}
 use Rattle.ixl_spec.specs.ixl_client.Made.{ActsOn, MakesAfterReceipt}
 use Rattle.ixl_spec.specs.ixl_client.ClientSoFar as client
+use Rattle.ixl_spec.specs.ixl_client.ClientSoFar.{LinkCall}
 use Rattle.ixl_spec.specs.ixl_client.Step.{hearing}
 use Rattle.ixl_spec.specs.StepSoFar.{StepSoFar}
 use Rattle.ixl_spec.specs.State.{IxlState}
-use Rattle.ixl_spec.specs.Step.{Input, given as given_input, all_closing, detector_closing, known_point_closing, known_signal_closing, noting}
+use Rattle.ixl_spec.specs.Step.{Input, given as given_input}
 use Rattle.ixl_spec.specs.Table.{Table as Rows}
 use Rattle.simulator_machine.specs.Machine.{Machine, with_point, with_signal}
 use Rattle.simulator_machine.specs.Point.{PointMove}
@@ -24,12 +25,9 @@ use Rattle.ixl_spec.specs.Step.{all_clocked, watching}
 use Rattle.simulator_move_laws.specs.MachineSoFar.{until_ticked}
 use Rattle.simulator_move_laws.specs.Sees.{Sees}
 use Rattle.simulator_move_laws.proofs.Interlocking.Given.{inputs_kept}
-use Rattle.simulator_move_laws.proofs.Interlocking.KnownPointNodes.{known_point_closes}
-use Rattle.simulator_move_laws.proofs.Interlocking.Nodes.{known_signal_closes}
-use Rattle.simulator_move_laws.proofs.Interlocking.Routes.{over_kept}
 use Rattle.simulator_move_laws.proofs.Interlocking.RulesKept.{rules_kept}
 use Rattle.simulator_move_laws.proofs.Interlocking.Start.{begins_so}
-use Rattle.simulator_move_laws.proofs.Interlocking.UnseenWatches.{all_note, all_watch, detector_closes}
+use Rattle.simulator_move_laws.proofs.Interlocking.UnseenWatches.{all_watch}
 
 module _ (now : ℕ) (input : Input) (rows : Rows) (ixl : IxlState) (given : Given) (machine : Machine) (far : FarEnds now input ixl given machine)
     (chain_signal : (machine : Machine) (place : ℕ) (moves : List SignalMove) → SignalMayChain moves (machine.signals place)
@@ -40,24 +38,10 @@ module _ (now : ℕ) (input : Input) (rows : Rows) (ixl : IxlState) (given : Giv
     (acts : (now : ℕ) (bytes : List ℕ) (part : client.ClientSoFar) → ActsOn now bytes part (hearing now bytes part))
     (receipt : (now : ℕ) (bytes : List ℕ) (part : client.ClientSoFar) → MakesAfterReceipt now bytes part (hearing now bytes part))
     (at_first : AreHeldAtFirst rows) (counted : length ixl.routes ≡ length rows.rows) where
-  abbrev On : StepSoFar → Type 0
-  On part = Leads now input (machine_table rows) ixl given machine part
-
-  -- each link that isn't caught up any more closes
-  closes : (part : StepSoFar) → On part → On (all_closing now part)
-  unfolding all_closing
-  closes part on =
-      over_kept On (detector_closing now) (detector_closes now input (machine_table rows) rows ixl given machine onward) (length part.ixl.detectors) _
-      (over_kept On (known_point_closing now) (known_point_closes now input (machine_table rows) ixl given machine far chain_point onward acts receipt) (length part.ixl.known_points) _
-      (over_kept On (known_signal_closing now) (known_signal_closes now input (machine_table rows) ixl given machine far chain_signal onward) (length part.ixl.known_signals) part on))
-
-  pub steps_so : Sees now ixl given machine → (key : Key) (outbox : OutboxState) → On (until_ticked now rows key input ixl outbox)
+  pub steps_so : Sees now ixl given machine → (key : Key) (outbox : OutboxState) → Leads now input (machine_table rows) ixl given machine (until_ticked now rows key input ixl outbox)
   steps_so sees key outbox =
-      let begun : StepSoFar = all_closing now (begun_with (all_clocked now ixl) outbox)
+      let begun : StepSoFar = begun_with (all_clocked now ixl) outbox
       in let heard : StepSoFar = given_input now rows key input begun
-      in let watched : StepSoFar = over (watching rows) (count rows) heard
-      in rules_kept now input rows ixl given machine far chain_signal chain_point onward acts receipt at_first (over (noting now rows) (count rows) watched)
-      (all_note now input (machine_table rows) rows ixl given machine onward watched
+      in rules_kept now input rows ixl given machine far chain_signal chain_point onward acts receipt at_first (over (watching rows) (count rows) heard)
       (all_watch now input (machine_table rows) rows ixl given machine onward heard
-      (inputs_kept now input rows ixl given machine far chain_signal chain_point onward acts receipt at_first counted key begun
-      (closes (begun_with (all_clocked now ixl) outbox) (begins_so now input (machine_table rows) ixl given machine sees outbox)))))
+      (inputs_kept now input rows ixl given machine far chain_signal chain_point onward acts receipt at_first counted key begun (begins_so now input (machine_table rows) ixl given machine sees outbox)))

@@ -15,7 +15,7 @@ use Rattle.ixl_spec.specs.rasta_core.State.{LinkState, is_open, is_up}
 use Rattle.ixl_spec.specs.rasta_core.reason.Reason.TheVariants as reason
 use Rattle.ixl_spec.specs.ixl_client.Client.{ClientState, PeerState, is_outside}
 use Rattle.ixl_spec.specs.ixl_client.ClientSoFar.{LinkCall, Opens, Ticks, Closes, Sends, Receives, ClientSoFar, begun, call_made, calling}
-use Rattle.ixl_spec.specs.ixl_client.Step.{acted_on, acting, acting_all, fallen, hearing, is_refused_by_window, posting, rising, telegram_to, closing_behind, is_behind}
+use Rattle.ixl_spec.specs.ixl_client.Step.{acted_on, acting, acting_all, fallen, hearing, is_refused_by_window, posting, rising, telegram_to}
 use Rattle.simulator_move_laws.specs.Items as item
 use Rattle.simulator_move_laws.specs.Items.{all_said, aspects_of, moves_of, said_by}
 use Rattle.simulator_move_laws.specs.Calls.{Items, items_after, items_by}
@@ -132,9 +132,3 @@ module _ (now : ℕ) (peer : PeerState) where
 
 pub datagram_calls : (now : ℕ) (bytes : List ℕ) (client : ClientState) (outbox : OutboxState) → AreInitialCalls client.peer (hearing now bytes (begun client outbox)).calls
 datagram_calls now bytes client outbox = (hears_so now client.peer bytes (begun client outbox) (tt, refl)).0
-
--- nor do those of a link that closes since it isn't caught up any more
-pub closing_calls : (now : ℕ) (client : ClientState) (outbox : OutboxState) → AreInitialCalls client.peer (closing_behind now (begun client outbox)).calls
-unfolding closing_behind
-closing_calls now client outbox = by_test (λ (p : ClientSoFar). AreInitialCalls client.peer p.calls) (is_behind now client) _ (begun client outbox)
-    (λ e. (calls_so now client.peer (Closes reason.User) (begun client outbox) tt (tt, refl)).0) (λ e. tt)

@@ -1,16 +1,15 @@
 -- What routes watch, and what detectors tell, the machine doesn't see.
 use Rattle.std.proofs.Common.{◌≡◌, ℕ, Bool, List, refl, sym, ap, subst}
-use Rattle.std.specs.Prelude.{◌&&◌, ◌||◌, not, Option, Some, None, slice_get}
+use Rattle.std.specs.Prelude.{◌||◌, not, Option, Some, None, slice_get}
 use Rattle.ixl_spec.specs.ixl_client.ClientSoFar as client
 use Rattle.ixl_spec.specs.ixl_client.ClientSoFar.{begun}
-use Rattle.ixl_spec.specs.ixl_client.Step.{hearing, closing_behind}
+use Rattle.ixl_spec.specs.ixl_client.Step.{hearing}
 use Rattle.ixl_spec.specs.StepSoFar.{Detector, StepSoFar, Point, Signal, detector_after, noted, over, with_detector, with_route}
 use Rattle.ixl_spec.specs.Rules.{count, is_proceeding, is_withdrawn}
 use Rattle.ixl_spec.specs.State.{KnownDetectorState, IxlState, RouteState}
-use Rattle.ixl_spec.specs.Step.{Input, detector_hearing, looking, looking_by, looks, noting, occupied_heard, route_looks, watching, detector_closing}
+use Rattle.ixl_spec.specs.Step.{Input, detector_hearing, looking, looking_by, looks, occupied_heard, route_looks, watching}
 use Rattle.ixl_spec.specs.Table.{Row, Table as Rows}
-use Rattle.ixl_spec.specs.View.{is_approach_clear, place_in, was_authorised, all_clear}
-use Rattle.ixl_spec.specs.release.Reports.{clear_since_after}
+use Rattle.ixl_spec.specs.View.{is_approach_clear, place_in, was_authorised}
 use Rattle.simulator_machine.specs.Machine.{Machine}
 use Rattle.simulator_machine.specs.Table.{Table}
 use Rattle.simulator_machine.specs.Chains.{MovesTo}
@@ -34,16 +33,6 @@ module _ (now : ℕ) (input : Input) (table : Table) (rows : Rows) (ixl : IxlSta
 
   pub all_watch : (part : StepSoFar) → On part → On (over (watching rows) (count rows) part)
   all_watch part on = over_kept On (watching rows) watches (count rows) part on
-
-  -- when its sections were clear first
-  notes : (number : ℕ) (part : StepSoFar) → On part → On (noting now rows number part)
-  unfolding noting
-  notes number part on = at_kept On rows number _ part (λ row route has is.
-      by_test On (rows.is_strict && was_authorised route.phase) (with_route number (λ old. record old { clear_since = clear_since_after now (all_clear rows part.ixl row.sections) old.clear_since }) part) part
-      (λ e. route_same now input table ixl given machine onward number (λ old. record old { clear_since = clear_since_after now (all_clear rows part.ixl row.sections) old.clear_since }) part (λ other at. refl) on) (λ e. on)) on
-
-  pub all_note : (part : StepSoFar) → On part → On (over (noting now rows) (count rows) part)
-  all_note part on = over_kept On (noting now rows) notes (count rows) part on
 
   looked_same : (section : ℕ) (occupied : Bool) (row : Row) (route : RouteState) → (route_looks section occupied row route).phase ≡ route.phase
   looked_same section occupied row route = cases (place_in section row.sections) refl where
@@ -87,10 +76,3 @@ module _ (now : ℕ) (input : Input) (table : Table) (rows : Rows) (ixl : IxlSta
     cases (Some sections) has (Some detector) is = rw has (rw is (along_kept On (looking rows) look (looks sections detector (hearing now bytes (begun detector.client part.outbox)).heard (hearing now bytes (begun detector.client part.outbox)).client)
         (with_detector place (detector_after (occupied_heard (hearing now bytes (begun detector.client part.outbox)).heard detector.occupied) (hearing now bytes (begun detector.client part.outbox)).client) (noted (Detector place) (hearing now bytes (begun detector.client part.outbox)) part))
         (detector_on place _ (hearing now bytes (begun detector.client part.outbox)) part on)))
-
-  pub detector_closes : (place : ℕ) (part : StepSoFar) → On part → On (detector_closing now place part)
-  unfolding detector_closing
-  detector_closes place part on = cases (slice_get part.ixl.detectors place) refl where
-    cases : (detector : Option KnownDetectorState) → slice_get part.ixl.detectors place ≡ detector → On (detector_closing now place part)
-    cases None is = rw is on
-    cases (Some detector) is = rw is (detector_on place _ (closing_behind now (begun detector.client part.outbox)) part on)

@@ -23,10 +23,3 @@ pub mod AspectCalls
 pub mod DueShapes
 pub mod DueTests
 pub mod SectionsEvents
-pub mod ShutLinks
-pub mod FoundHosts
-pub mod FoundClients
-pub mod FoundIxl
-pub mod GoneClients
-pub mod DownLinks
-pub mod CaughtUpHosts

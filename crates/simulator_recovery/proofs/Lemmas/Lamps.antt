@@ -9,4 +9,3 @@ pub mod ProceedsHearing
 pub mod ProceedsGiven
 pub mod ProceedsRounds
 pub mod ProceedsStays
-pub mod LeftSignals

@@ -26,7 +26,6 @@ pub mod SidesStep
 pub mod SidesMoves
 pub mod SidesDrives
 pub mod KnownIxl
-pub mod GonePoints
 pub mod KnownClient
 pub mod KnownStation
 pub mod KnownAlways

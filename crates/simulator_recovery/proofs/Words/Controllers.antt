@@ -1,23 +1,23 @@
 -- Words of telegrams, of controllers and of their objects.
-pub use Rattle.object_host_laws.specs.Point.{IsFinal, IsPointStep, IsReported, found_by, initial_reports, is_moving, link_found, moved_by, position_told, stage_by}
+pub use Rattle.object_host_laws.specs.Point.{IsFinal, IsPointStep, IsReported, found_by, initial_reports, is_moving, moved_by, position_told, stage_by}
 unfoldable pub use Rattle.object_host_laws.specs.Point.{moves_in}
 pub use Rattle.object_host_laws.specs.Signal.{IsTold, aspect_due, aspect_taken}
 unfoldable pub use Rattle.object_host_laws.specs.Signal.{last_indicated}
 pub use Rattle.object_host_laws.specs.World.{ClientRestarts, Commands, Elsewhere, Event, HostRestarts, May, MayHear, Passes, Steps, World, as_call, entering, host_of, step_of}
 unfoldable pub use Rattle.object_host_laws.specs.World.{MayRun, called_all, happened, host_restarted, run, stepped}
 pub use Rattle.simulator_spec.specs.object_host.Behaviour.{Behaviour}
-pub use Rattle.simulator_spec.specs.object_host.Host.{Closes, HostSoFar, HostState, LinkCall, Receives, Sends, at_stage, is_completed, is_outside, restrictive_from, said, sender_of, silent, telegram_of, then_do, watched}
+pub use Rattle.simulator_spec.specs.object_host.Host.{Closes, HostSoFar, HostState, LinkCall, Receives, Sends, at_stage, is_completed, is_outside, said, sender_of, silent, telegram_of, then_do}
 unfoldable pub use Rattle.simulator_spec.specs.object_host.Host.{fallen, keeping, risen}
 pub use Rattle.simulator_spec.specs.object_host.Hosted.{IsNamedAs}
 unfoldable pub use Rattle.simulator_spec.specs.object_host.Hosted.{new_host}
-pub use Rattle.simulator_spec.specs.object_host.Made.{ActsOn, AreCallsFor, AreItems, AreOwn, call_made, command_of, is_command, items_given_by, items_taken_by}
+pub use Rattle.simulator_spec.specs.object_host.Made.{ActsOn, AreCallsFor, AreItems, AreOwn, call_made, command_of, is_command, items_given_by}
 unfoldable pub use Rattle.simulator_spec.specs.object_host.Made.{calls_made, commands_of, items_given, items_taken}
 pub use Rattle.simulator_spec.specs.object_host.Meaning.{meaning}
 pub use Rattle.simulator_spec.specs.object_host.Object.{Keeps, Loses, ObjectCall, Pays, Senses, Takes, Ticks, object_after, one_of}
 unfoldable pub use Rattle.simulator_spec.specs.object_host.Object.{contacts_in, object_after_all, reports_paid, telegrams_in}
-pub use Rattle.simulator_spec.specs.object_host.Step.{closes_when_refused, closing, ending, found, goes_on, is_admitted, is_behind, is_from_peer, is_in_version, is_refused_by_window, most_objects, most_owed, paid, paying_first, report_then, telling_status}
-unfoldable pub use Rattle.simulator_spec.specs.object_host.Step.{acting, acting_all, after_refusal, answering, beating, beginning, closing_behind, commanding, following, given, going_on, hearing, host_step, initial_status, initialising, paying, posting, posting_all, received, violating}
-pub use Rattle.simulator_spec.specs.object_host.Told.{AreComing, ArePayments, AreSomeOf, IsToldIn, IsVersionAnswer, calls_begun, calls_in_step, contacts_of, has_lost, initialisation, item_of, loses_behind, loss_where}
+pub use Rattle.simulator_spec.specs.object_host.Step.{ending, goes_on, is_admitted, is_from_peer, is_in_version, most_objects, most_owed, paid, paying_first, report_then, telling_status}
+unfoldable pub use Rattle.simulator_spec.specs.object_host.Step.{acting, acting_all, answering, beating, beginning, commanding, following, given, hearing, host_step, initial_status, initialising, paying, posting, posting_all, received, violating}
+pub use Rattle.simulator_spec.specs.object_host.Told.{AreComing, ArePayments, AreSomeOf, IsToldIn, IsVersionAnswer, calls_begun, calls_in_step, contacts_of, has_lost, initialisation, item_of, loss_where}
 unfoldable pub use Rattle.simulator_spec.specs.object_host.Told.{AllFit}
 pub use Rattle.simulator_spec.specs.object_host.declared.input.Input.{Input}
 pub use Rattle.simulator_spec.specs.object_host.declared.report.Report.{Report}

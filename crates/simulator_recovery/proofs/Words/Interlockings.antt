@@ -2,7 +2,6 @@
 pub use Rattle.ixl_table.specs.Table.{IsHeldUntil, IsReportedIn, IsRowOf, IsTableOf, as_point, as_route, as_section, required}
 pub use Rattle.release.specs.Passage.{PassageState, after_look}
 unfoldable pub use Rattle.release.specs.Passage.{passage_after}
-pub use Rattle.release.specs.Reports.{HaveCome, clear_since_after, have_come, is_clear_long, report_end}
 pub use Rattle.simulator_spec.specs.ixl_client.Client.{ClientState, IsClient, PeerState, is_available, is_outside, is_ready}
 unfoldable pub use Rattle.simulator_spec.specs.ixl_client.Client.{new_client}
 pub use Rattle.simulator_spec.specs.ixl_client.ClientSoFar.{ClientSoFar, Closes, LinkCall, Opens, Receives, Sends, Ticks, as_call, begun, call_made}
@@ -13,21 +12,21 @@ pub use Rattle.simulator_spec.specs.ixl_client.Made.{ActsOn, AreOwn, MakesAfterR
 unfoldable pub use Rattle.simulator_spec.specs.ixl_client.Made.{link_after, told_by_all}
 pub use Rattle.simulator_spec.specs.ixl_client.Meaning.{initial_meaning, is_for_client, is_in_turn, is_in_version, is_match, is_same_protocol, is_status, meaning_of, place_of, report_meaning, reports_changes, state_in}
 unfoldable pub use Rattle.simulator_spec.specs.ixl_client.Meaning.{meaning}
-pub use Rattle.simulator_spec.specs.ixl_client.Step.{acted_on, at_stage, ending, is_behind, is_refused_by_window, meaning_of_item, message_of, saying, stage_after_command, stage_after_report, telegram_to, watched}
-unfoldable pub use Rattle.simulator_spec.specs.ixl_client.Step.{acting, acting_all, clocked, closed_behind, closing_behind, commanding, fallen, following, hearing, posting, rising, ticking}
+pub use Rattle.simulator_spec.specs.ixl_client.Step.{acted_on, at_stage, ending, is_refused_by_window, meaning_of_item, message_of, saying, stage_after_command, stage_after_report, telegram_to}
+unfoldable pub use Rattle.simulator_spec.specs.ixl_client.Step.{acting, acting_all, clocked, commanding, fallen, following, hearing, posting, rising, ticking}
 pub use Rattle.simulator_spec.specs.ixl_client.declared.command.Command.TheVariants.{Indicate, Move}
 pub use Rattle.simulator_spec.specs.ixl_client.declared.indication.Indication.{Indication}
 pub use Rattle.simulator_spec.specs.ixl_client.declared.indication.ObjectState.{ObjectState}
 pub use Rattle.simulator_spec.specs.ixl_client.declared.stage.Stage.{Stage}
 pub use Rattle.simulator_spec.specs.ixl_spec.Commands.{cancel_refusal, commanded_by, conflict_told, held_told, is_ended, own_section_refusal, refused_where, release_refusal, released_at, request_refusal, set_anew, unmoved_for}
 unfoldable pub use Rattle.simulator_spec.specs.ixl_spec.Commands.{closed_refusal, locking_refusal, moved_at_once, moving_refusal, obeyed, refusal}
-pub use Rattle.simulator_spec.specs.ixl_spec.Due.{Admissible, AllClear, AllKnown, At, FreeByCancel, Freeable, HasFreshReports, HoldsPoint, IsAvailable, IsClear, IsHeldAt, IsHeldWithAuthority, IsKnownSignalAtStop, IsReleaseOver, IsRouteOf, IsSignalReady, Known, KnownStop, LetsGo, LiesInClosed, MoveDue, ProceedDue, ReportedBy, StopDue}
+pub use Rattle.simulator_spec.specs.ixl_spec.Due.{Admissible, AllClear, AllKnown, At, FreeByCancel, Freeable, HoldsPoint, IsAvailable, IsClear, IsHeldAt, IsHeldWithAuthority, IsKnownSignalAtStop, IsReleaseOver, IsRouteOf, IsSignalReady, Known, KnownStop, LetsGo, LiesInClosed, MoveDue, ProceedDue, ReportedBy, StopDue}
 pub use Rattle.simulator_spec.specs.ixl_spec.EndDue.{SomeFreeable}
-pub use Rattle.simulator_spec.specs.ixl_spec.Rules.{authorised, come_to, count, ended, freed, freed_by_cancel, freed_by_passage, frees_cancelled, frees_next, is_fresh, is_move_due, is_over_clear, is_proceed_due, is_proceeding, is_stop_due, is_unmoved, is_waiting, is_withdrawn, moved, one_freed, repeated, ruled, stopped, withdrawn}
+pub use Rattle.simulator_spec.specs.ixl_spec.Rules.{authorised, come_to, count, ended, freed, freed_by_cancel, freed_by_passage, frees_cancelled, frees_next, is_move_due, is_over_clear, is_proceed_due, is_proceeding, is_stop_due, is_unmoved, is_waiting, is_withdrawn, moved, one_freed, repeated, ruled, stopped, withdrawn}
 unfoldable pub use Rattle.simulator_spec.specs.ixl_spec.Rules.{ending_authority, freeing_by_cancel, freeing_by_passage, freeing_next, moving, moving_one, proceeding, withdrawing}
 pub use Rattle.simulator_spec.specs.ixl_spec.State.{IxlState, KnownDetectorState, KnownPointState, KnownSignalState, RouteState, changed}
-pub use Rattle.simulator_spec.specs.ixl_spec.Step.{Commands, Datagram, Input, Tick, addressed, answer_by, as_node, clocked_detector, clocked_known_point, clocked_known_signal, closed_detector, closed_known_point, closed_known_signal, is_told_occupied, looking, looks, occupied_heard, or_else, partner_at, route_looks, side_heard, side_of, told_before, told_now}
-unfoldable pub use Rattle.simulator_spec.specs.ixl_spec.Step.{all_clocked, all_closing, as_found, detector_closing, detector_hearing, detector_ticking, given, known_point_closing, known_point_hearing, known_point_ticking, known_signal_closing, known_signal_hearing, known_signal_ticking, looking_by, node_hearing, node_of, noting, reply, stepped, ticked, watching}
+pub use Rattle.simulator_spec.specs.ixl_spec.Step.{Commands, Datagram, Input, Tick, addressed, answer_by, as_node, clocked_detector, clocked_known_point, clocked_known_signal, is_told_occupied, looking, looks, occupied_heard, or_else, partner_at, route_looks, side_heard, side_of, told_before, told_now}
+unfoldable pub use Rattle.simulator_spec.specs.ixl_spec.Step.{all_clocked, detector_hearing, detector_ticking, given, known_point_hearing, known_point_ticking, known_signal_hearing, known_signal_ticking, looking_by, node_hearing, node_of, reply, stepped, ticked, watching}
 pub use Rattle.simulator_spec.specs.ixl_spec.Operations.{first_holding, first_route}
 unfoldable pub use Rattle.simulator_spec.specs.ixl_spec.Operations.{lies_in_closed}
 pub use Rattle.simulator_spec.specs.ixl_spec.StepSoFar.{Detector, Node, Point, Signal, StepSoFar, all_below, along, begun_with, empty_outbox, noted, over, with_detector, with_one, with_route}

@@ -21,7 +21,7 @@ pub record LawsOfHost {Object : Type 0} (does : Behaviour Object) : Type 0 where
       → (stepped does input connection world).ends.server.given ≡ world.ends.server.given
   pub takes_none : (input : Input) (connection : ℕ) (world : World Object) → entering input connection world.ends ≡ None → is_open world.ends.server.link.phase ≡ false
       → (stepped does input connection world).ends.server.taken ≡ world.ends.server.taken
-  pub first : (now : ℕ) (input : Input) (host : HostState Object) → AreCallsFor now host.link input (host_step does now input host).calls
+  pub first : (now : ℕ) (input : Input) (host : HostState Object) → AreCallsFor input (host_step does now input host).calls
   pub link : (input : Input) (connection : ℕ) (world : World Object) → settled (reading_of world.ends.server.clock) world.ends.server.link ≡ world.ends.server.link
       → (stepped does input connection world).ends.server.link ≡ (step_of does input world).host.link
   pub outside : (input : Input) (connection : ℕ) (world : World Object) → entering input connection world.ends ≡ None → is_open world.ends.server.link.phase ≡ false

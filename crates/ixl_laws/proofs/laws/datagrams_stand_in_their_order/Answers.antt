@@ -9,11 +9,9 @@ laws c now = record {
   acts = c.step_hears_what_was_taken.ensures now;
   command = c.step_is_calls.ensures.command now;
   tick = c.step_is_calls.ensures.tick now;
-  behind = c.step_is_calls.ensures.behind now;
   same_receipt = c.step_keeps_the_peer.ensures.receipt now;
   same_command = c.step_keeps_the_peer.ensures.command now;
   same_tick = c.step_keeps_the_peer.ensures.tick now;
-  same_behind = c.step_keeps_the_peer.ensures.behind now;
 }
 
 pub returns-clause-calls : goal.returns-clause-calls

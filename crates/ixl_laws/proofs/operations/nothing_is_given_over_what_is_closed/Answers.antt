@@ -1,6 +1,6 @@
 use Rattle.std.proofs.Common.{refl}
 use Rattle.ixl_state.specs.First.{key_of}
-use Rattle.ixl_state.specs.ixl_spec.Step.{Accepted, as_found}
+use Rattle.ixl_state.specs.ixl_spec.Step.{Accepted, all_clocked}
 use Rattle.ixl_state.specs.ixl_spec.declared.command.Command.TheVariants as commands
 use Rattle.ixl_laws.proofs.GivenOver.{no_aspect, no_move}
 use Rattle.ixl_laws.proofs.InputUses.{input_unused}
@@ -28,7 +28,7 @@ returns-clause-moves c now point input old new step place taken unused is_table 
     point place taken is_table at gives closed
 
 pub returns-clause-commands : goal.returns-clause-commands
-unfolding as_found
+unfolding all_clocked
 returns-clause-commands c now point side old new step closed =
-    ((c.move_is_accepted_where_it_may_be.ensures.accepted now old.state.sited.table (as_found now old.state.ixl) point side).0
+    ((c.move_is_accepted_where_it_may_be.ensures.accepted now old.state.sited.table (all_clocked now old.state.ixl) point side).0
     (accepted_is now (commands.Move point side) old new Accepted step refl)).unclosed closed

@@ -6,7 +6,7 @@ returns-clause-changed c now kept input standing some other = changed_told now k
 
 pub returns-clause-close : goal.returns-clause-close
 returns-clause-close c now kept named standing some accepted = (
-  close_wanted c.the_input_finds_what_is_caught_up.ensures.state c.a_command_changes_what_it_names_alone.ensures.closed c.what_either_closes_is_closed.ensures.either now named standing.state some accepted,
+  close_wanted c.a_command_changes_what_it_names_alone.ensures.closed c.what_either_closes_is_closed.ensures.either now named standing.state some accepted,
   close_told now kept named standing some accepted,
 )
 

@@ -4,9 +4,9 @@ use Rattle.object_host.proofs.Between.{clocked_right, new_hosted, of_hosted, ste
 use Rattle.object_host.proofs.laws.steps_keep_a_host.Goals as goal
 
 pub returns-clause-new : goal.returns-clause-new
-unfolding Rattle.object_host.specs.Hosted.new_host Rattle.rasta_core.specs.Calls.created
-returns-clause-new g c = λ identity own_name peer_name first now object version is_strict.
-    new_hosted g.C.Controller.behaviour g.met.C.Controller.lawful _ _ object refl refl refl refl
+unfolding Rattle.object_host.specs.Hosted.new_host Rattle.object_host.specs.Host.keeping
+returns-clause-new g c = λ identity own_name peer_name first now object version.
+    new_hosted g.C.Controller.behaviour g.met.C.Controller.lawful identity first now _ _ own_name peer_name version object _ _ refl refl refl refl
 
 pub returns-clause-hosted : goal.returns-clause-hosted
 returns-clause-hosted g c = step_hosted g.C.Controller.behaviour g.met.C.Controller.lawful

@@ -11,7 +11,6 @@ returns-clause-kept c event world is_settled reported =
     event_reported c.steps_keep_a_host.ensures.clocked c.steps_keep_a_host.ensures.steady c.steps_keep_a_host.ensures.new event world
     (λ input connection. step_reported c.point_makes_a_step.ensures c.steps_keep_a_host.ensures.names c.steps_keep_a_host.ensures.hosted
     c.steps_keep_a_host.ensures.steady c.step_takes_and_gives.ensures.link c.step_takes_and_gives.ensures.given c.step_takes_and_gives.ensures.outside
-    c.step_takes_and_gives.ensures.behind (record { behind = c.who_is_behind_closes_first.ensures.behind; otherwise = c.who_is_behind_closes_first.ensures.otherwise })
     input connection world is_settled reported)
     reported
 

@@ -1,6 +1,6 @@
 use Rattle.object_host_laws.specs.World.{host_of}
 use Rattle.object_host_laws.proofs.Server.{now_of}
-use Rattle.object_host_laws.proofs.Told.{step_behind, step_behind_idle, step_clock, step_connection, step_given, step_idle, step_link, step_outside, step_taken}
+use Rattle.object_host_laws.proofs.Told.{step_clock, step_given, step_idle, step_link, step_outside, step_taken}
 use Rattle.object_host_laws.proofs.hosts.step_takes_and_gives.Goals as goal
 
 pub returns-clause-taken : goal.returns-clause-taken
@@ -10,10 +10,6 @@ returns-clause-taken g c = λ input connection world.
 pub returns-clause-given : goal.returns-clause-given
 returns-clause-given g c = λ input connection world.
     step_given g.C.Controller.behaviour input connection world (c.step_is_calls.ensures.first (now_of world.ends) input (host_of world))
-
-pub returns-clause-connection : goal.returns-clause-connection
-returns-clause-connection g c = λ input connection world.
-    step_connection g.C.Controller.behaviour input connection world (c.step_is_calls.ensures.first (now_of world.ends) input (host_of world))
 
 pub returns-clause-link : goal.returns-clause-link
 returns-clause-link g c = step_link g.C.Controller.behaviour c.step_is_calls.ensures.made
@@ -31,14 +27,3 @@ returns-clause-takes_none g c = λ input connection world none closed.
 pub returns-clause-gives_none : goal.returns-clause-gives_none
 returns-clause-gives_none g c = λ input connection world none closed.
     (step_idle g.C.Controller.behaviour c.own_calls_open_nothing.ensures c.step_is_calls.ensures.first input connection world none closed).1
-
-pub returns-clause-behind : goal.returns-clause-behind
-returns-clause-behind g c = step_behind g.C.Controller.behaviour c.own_calls_open_nothing.ensures c.step_is_calls.ensures.first c.who_is_behind_closes_first.ensures.behind
-
-pub returns-clause-behind_takes : goal.returns-clause-behind_takes
-returns-clause-behind_takes g c = λ input connection world is.
-    (step_behind_idle g.C.Controller.behaviour c.own_calls_open_nothing.ensures c.step_is_calls.ensures.first c.who_is_behind_closes_first.ensures.behind input connection world is).0
-
-pub returns-clause-behind_gives : goal.returns-clause-behind_gives
-returns-clause-behind_gives g c = λ input connection world is.
-    (step_behind_idle g.C.Controller.behaviour c.own_calls_open_nothing.ensures c.step_is_calls.ensures.first c.who_is_behind_closes_first.ensures.behind input connection world is).1

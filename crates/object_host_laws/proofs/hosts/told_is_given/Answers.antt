@@ -11,7 +11,7 @@ use Rattle.object_host_laws.proofs.Told.{begun_holds, holds_told, run_holds}
 use Rattle.object_host_laws.proofs.hosts.told_is_given.Goals as goal
 
 pub returns : goal.returns
-returns g c names start own_name peer_name object version is_strict events are may connection of_client of_server =
+returns g c names start own_name peer_name object version events are may connection of_client of_server =
     let does = g.C.Controller.behaviour
     in let keeps : (event : Event) (ends : Ends) → Timely names ends × Ordered names ends → May names event ends → Timely names (happened event ends) × Ordered names (happened event ends) =
     λ event ends sound allowed. (
@@ -24,7 +24,7 @@ returns g c names start own_name peer_name object version is_strict events are m
     in let calls_for = c.step_is_calls.ensures.first
     in let made_of = c.step_is_calls.ensures.made
     in let acts_on = c.step_tells_what_was_taken.ensures
-    in let at_start = begun_holds does names (λ (ends : Ends). Timely names ends × Ordered names ends) keeps is_settled opens calls_for made_of acts_on start own_name peer_name object version is_strict
+    in let at_start = begun_holds does names (λ (ends : Ends). Timely names ends × Ordered names ends) keeps is_settled opens calls_for made_of acts_on start own_name peer_name object version
     (c.starts_in_time.ensures names start are, c.every_event_keeps_order.ensures.starts names start)
     in let at_end = run_holds does names (λ (ends : Ends). Timely names ends × Ordered names ends) keeps is_settled opens calls_for made_of acts_on events _ at_start may
     in holds_told does names (λ (ends : Ends). Timely names ends × Ordered names ends) keeps is_settled opens calls_for made_of acts_on _ at_end (c.order_is_safe.ensures names _ at_end.sound.1) connection of_client of_server

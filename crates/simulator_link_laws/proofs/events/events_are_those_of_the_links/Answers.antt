@@ -41,7 +41,6 @@ returns c =
         receipt = c.step_is_calls.ensures.receipt;
         command = c.step_is_calls.ensures.command;
         tick = c.step_is_calls.ensures.tick;
-        behind = c.step_is_calls.ensures.behind;
         written = c.written_is_read.ensures.item;
       };
       detector = record { calls_for = c.step_is_calls-2.ensures.first; made_of = c.step_is_calls-2.ensures.made };

@@ -27,7 +27,6 @@ returns c =
       receipt = c.step_is_calls.ensures.receipt;
       command = c.step_is_calls.ensures.command;
       tick = c.step_is_calls.ensures.tick;
-      behind = c.step_is_calls.ensures.behind;
       written = c.written_is_read.ensures.item;
     }
     in λ site table input connection world before are_links whole timely are comes.

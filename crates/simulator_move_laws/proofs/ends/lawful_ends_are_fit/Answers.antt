@@ -1,9 +1,8 @@
-use Rattle.std.proofs.Common.{◌≡◌, inl, inr, ℕ, List, [], ◌∷◌, map, refl, sym, subst}
+use Rattle.std.proofs.Common.{◌≡◌, ℕ, List, [], ◌∷◌, map, refl, sym, subst}
 use Rattle.std.specs.Prelude.{Some}
 use Rattle.std.proofs.lemmas.Option.{none-some}
 use Rattle.rasta_core.specs.Each.{Each}
 use Rattle.rasta_core.specs.Ends as calls
-use Rattle.rasta_core.specs.Ends.{reading_of}
 use Rattle.rasta_core.specs.Events.{MayCall, MayRun, run}
 use Rattle.rasta_core.specs.Names.{Names}
 use Rattle.rasta_core.specs.Run.{Ends, called}
@@ -32,17 +31,12 @@ own_may names connection (Closes why ∷ others) ends own items = (tt, own_may n
 own_may names connection (Sends item ∷ others) ends own items = (items.0, own_may names connection others ends own.1 items.1)
 own_may names connection (Receives bytes ∷ others) ends own items = absurd own.0
 
-all_may : (names : Names) (input : Input) (connection : ℕ) (made : List LinkCall) (ends : Ends) → MayHear names input connection ends → AreCallsFor (reading_of ends.server.clock) ends.server.link input made → AreItems made →
+all_may : (names : Names) (input : Input) (connection : ℕ) (made : List LinkCall) (ends : Ends) → MayHear names input connection ends → AreCallsFor input made → AreItems made →
     Each (λ call. MayCall names role.Server call ends) (map (as_call connection) made)
 all_may names inputs.Tick connection made ends hears own items = own_may names connection made ends own items
 all_may names (inputs.Datagram bytes) connection made ends hears first items =
-    elim first.1 [
-      | inl is ↦ subst MayAll (sym is) (λ all. (hears, own_may names connection first.0 ends first.2 all)) items
-      | inr both ↦ subst MayAll (sym both.0) (λ all. (tt, (hears, own_may names connection first.0 ends first.2 all))) items
-    ]
-  where
-    MayAll : List LinkCall → Type 0
-    MayAll cs = AreItems cs → Each (λ call. MayCall names role.Server call ends) (map (as_call connection) cs)
+    subst (λ cs. AreItems cs → Each (λ call. MayCall names role.Server call ends) (map (as_call connection) cs)) (sym first.1)
+    (λ is. (hears, own_may names connection first.0 ends first.2 is)) items
 all_may names (inputs.Sense sense) connection made ends hears own items = own_may names connection made ends own items
 
 pub returns-clause-fit : goal.returns-clause-fit

@@ -13,8 +13,7 @@ use Rattle.point_ctl.specs.Drive.{PointState}
 use Rattle.object_host_laws.specs.Point.{IsPointStep}
 use Rattle.simulator_move_laws.specs.Ends.{Steps, hosted_on}
 use Rattle.simulator_move_laws.specs.Point.{IsPointSeen, PointGoes}
-use Rattle.simulator_move_laws.proofs.Controllers.Behind.{is_found_there}
-use Rattle.simulator_move_laws.proofs.Controllers.Places.{client_stays}
+use Rattle.simulator_move_laws.proofs.Controllers.Places.{client_stays, connection_after}
 use Rattle.simulator_move_laws.proofs.Controllers.Reported.{step_reported}
 use Rattle.simulator_move_laws.proofs.Controllers.Steps.{point_goes}
 use Rattle.simulator_move_laws.proofs.Controllers.KnownPoints.{IsStep}
@@ -58,7 +57,7 @@ returns c input connection ends host point sound seen moves = subst Leads same h
             ∙ ap (λ items. kept (entering input connection ends) ends.server.given ++ items) (ap (items_given now part.calls) (sym is_settled) ∙ step.tells.gives);
         link_is = link_is;
         client_is = client_stays connection part.calls ends;
-        connection_is = c.step_takes_and_gives.ensures.connection input connection world;
+        connection_is = connection_after connection input part.calls ends (c.step_is_calls.ensures.first now input (host_of world));
         at_end = ap (settled (reading_of new.server.clock)) (sym link_is) ∙ steps.fit_after.settled_at;
         reported = step_reported c.point_reports_its_moves.ensures.kept c.what_is_taken_is_acted_on.ensures.steps input connection ends host steps.fit (c.steps_keep_a_host.ensures.names now input (host_of world)) seen.reported;
       }
@@ -68,13 +67,9 @@ returns c input connection ends host point sound seen moves = subst Leads same h
       point_goes c.items_join.ensures.moves c.items_join.ensures.reports c.written_items_are_read.ensures.reports
       c.moves_of_links_are_moves.ensures.point c.moves_of_links_are_moves.ensures.point_link
       input connection ends host point part sound seen steps (λ side. c.point_reports_its_moves.ensures.driven world seen.reported side) moves (made steps)
-      (is_found_there now (host_of world) steps.fit.settled_at)
       (c.steps_find_what_was_reported.ensures.inside world steps.fit.settled_at seen.reported)
       (c.steps_find_what_was_reported.ensures.outside world steps.fit.settled_at seen.reported)
       (c.steps_find_what_was_reported.ensures.undriven world steps.fit.settled_at seen.reported)
       (c.step_takes_and_gives.ensures.outside input connection world)
       (c.step_takes_and_gives.ensures.takes_none input connection world)
       (c.step_takes_and_gives.ensures.gives_none input connection world)
-      (c.step_takes_and_gives.ensures.behind input connection world)
-      (c.step_takes_and_gives.ensures.behind_takes input connection world)
-      (c.step_takes_and_gives.ensures.behind_gives input connection world)

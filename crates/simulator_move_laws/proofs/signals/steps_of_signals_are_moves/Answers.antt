@@ -9,7 +9,7 @@ use Rattle.rasta_core.specs.State.{LinkState, is_open}
 use Rattle.object_host.specs.Host.{HostSoFar}
 use Rattle.object_host.specs.Made.{items_taken}
 use Rattle.object_host.specs.Step.{host_step}
-use Rattle.object_host_laws.specs.World.{World, called_all, entering, host_of, step_of, stepped}
+use Rattle.object_host_laws.specs.World.{World, called_all, entering, step_of, stepped}
 use Rattle.signal_ctl.specs.Signal.{SignalState, signal_behaviour}
 use Rattle.simulator_move_laws.specs.Ends.{IsAtEnd, Steps, hosted_on}
 use Rattle.simulator_move_laws.specs.Signal.{IsSignalSeen, SignalGoes}
@@ -53,5 +53,4 @@ returns c input connection ends host signal sound seen =
         in signal_goes c.moves_of_links_are_moves.ensures.signal c.moves_of_links_are_moves.ensures.signal_link c.items_join.ensures.aspects
         input connection ends new host part.host signal sound seen steps (client_stays connection part.calls ends)
         (items_taken now part.calls ends.server.link) (c.step_takes_and_gives.ensures.taken input connection world)
-        (opened steps) at_end (step_told c.signal_shows_what_was_told.ensures.kept c.what_is_taken_is_acted_on.ensures.steps input connection ends host steps.fit
-        (c.steps_keep_a_host.ensures.names now input (host_of world)).is_strict seen.told)
+        (opened steps) at_end (step_told c.signal_shows_what_was_told.ensures.kept c.what_is_taken_is_acted_on.ensures.steps input connection ends host steps.fit seen.told)

@@ -2,20 +2,19 @@
 use Rattle.simulator_recovery.proofs.Words.Basics.{◌≡◌, ℕ, Bool, true, false, ◌&&◌, List, ◌++◌, map, Option, Some, None, slice_get, refl, inl, false≢true, not}
 use Rattle.simulator_recovery.proofs.Words.Links.{OutboxState, reading, Key}
 use Rattle.simulator_recovery.proofs.Words.Controllers.{Aspect, Side}
-use Rattle.simulator_recovery.proofs.Words.Interlockings.{ClientState, is_ready, ClientSoFar, LinkCall, begun, commanding, hearing, ticking, commanded_by, obeyed, refusal, released_at, set_anew, authorised, come_to, is_move_due, is_proceed_due, is_proceeding, is_stop_due, is_waiting, moving_one, proceeding, ruled, withdrawing, IxlState, KnownSignalState, RouteState, changed, Commands, Datagram, Input, Tick, addressed, all_clocked, clocked_known_signal, detector_hearing, detector_ticking, given, known_point_hearing, known_point_ticking, known_signal_hearing, known_signal_ticking, looking, looks, node_hearing, occupied_heard, stepped, ticked, Detector, Node, Point, Signal, StepSoFar, detector_after, giving_aspect, giving_move, known_signal_after, noted, with_detector, with_one, with_route, Need, Row, Table, at, all_clear, all_known, is_at_known_stop, is_known_signal_at_stop, is_signal_ready, Command, Refusal, Phase, closing_behind, known_signal_closing, known_point_closing, detector_closing}
+use Rattle.simulator_recovery.proofs.Words.Interlockings.{ClientState, is_ready, ClientSoFar, LinkCall, begun, commanding, hearing, ticking, commanded_by, obeyed, refusal, released_at, set_anew, authorised, come_to, count, is_move_due, is_proceed_due, is_proceeding, is_stop_due, is_waiting, moving_one, proceeding, ruled, withdrawing, IxlState, KnownSignalState, RouteState, changed, Commands, Datagram, Input, Tick, addressed, all_clocked, clocked_known_signal, detector_hearing, detector_ticking, given, known_point_hearing, known_point_ticking, known_signal_hearing, known_signal_ticking, looking, looks, node_hearing, occupied_heard, stepped, ticked, watching, Detector, Node, Point, Signal, StepSoFar, detector_after, giving_aspect, giving_move, known_signal_after, noted, with_detector, with_one, with_route, Need, Row, Table, at, all_clear, all_known, is_at_known_stop, is_known_signal_at_stop, is_signal_ready, Command, Refusal, Phase}
 use Rattle.simulator_recovery.proofs.Words.Stations.{RouteId}
 use Rattle.simulator_spec.specs.ixl_client.declared.command.Command.{Command as ClientCommand}
-use Rattle.simulator_recovery.proofs.Lemmas.Ground.DueShapes.{along_keeps, closing_keeps, either_keeps, found_in, one_keeps, ruled_keeps, there_keeps, ticked_keeps, where_keeps}
+use Rattle.simulator_recovery.proofs.Lemmas.Ground.DueShapes.{along_keeps, either_keeps, one_keeps, over_keeps, ruled_keeps, there_keeps, ticked_keeps, where_keeps}
 use Rattle.simulator_recovery.proofs.Lemmas.Ground.IxlSoFar.{test_of}
-use Rattle.simulator_recovery.proofs.Lemmas.Ground.SignalParts.{AtRoute, IsQuiet, is_ready_there, is_waiting_there, new_signal, none_passes, not_cancelled_there, at_keeps, ending_keeps, next_keeps, cancel_keeps, looked_keeps, looking_keeps}
+use Rattle.simulator_recovery.proofs.Lemmas.Ground.SignalParts.{AtRoute, IsQuiet, is_ready_there, is_waiting_there, new_signal, none_passes, not_cancelled_there, at_keeps, ending_keeps, next_keeps, cancel_keeps, watching_keeps, looking_keeps}
 use Rattle.simulator_recovery.proofs.Lemmas.Ground.DueTests.{first_true}
 use Rattle.simulator_recovery.proofs.Lemmas.Ground.MovedAtOnce.{moved_keeps}
 
 -- ---- what a part of a step does
 
--- a client goes on by a datagram or a tick, or its link is closed where it isn't caught up any more
+-- a client goes on by a datagram or a tick
 pub data DoneBy (now : ℕ) (old : ClientState) (done : ClientSoFar) : Type 0 where
-  closes : (outbox : OutboxState) → done ≡ closing_behind now (begun old outbox) → DoneBy now old done
   hears : (bytes : List ℕ) (outbox : OutboxState) → done ≡ hearing now bytes (begun old outbox) → DoneBy now old done
   ticks : (outbox : OutboxState) → done ≡ ticking now (begun old outbox) → DoneBy now old done
 
@@ -161,24 +160,6 @@ module _ (now : ℕ) (table : Table) (P : List RouteState → List KnownSignalSt
   unfolding all_clocked
   clocked_held part all = keep.clock part.ixl.routes part.ixl.known_signals part.calls all
 
-  signal_closes : (place : ℕ) (part : StepSoFar) → Held part → Held (known_signal_closing now place part)
-  unfolding known_signal_closing
-  signal_closes place part all = one_keeps Held (slice_get part.ixl.known_signals place) _ part (λ known e.
-      keep.client place known (closing_behind now (begun known.client part.outbox)) _ part.ixl.routes part.ixl.known_signals part.calls e (closes part.outbox refl) all) all
-
-  point_closes : (place : ℕ) (part : StepSoFar) → Held part → Held (known_point_closing now place part)
-  unfolding known_point_closing
-  point_closes place part all = one_keeps Held (slice_get part.ixl.known_points place) _ part (λ known e.
-      keep.point place (closing_behind now (begun known.client part.outbox)).calls part.ixl.routes part.ixl.known_signals part.calls all) all
-
-  detector_closes : (place : ℕ) (part : StepSoFar) → Held part → Held (detector_closing now place part)
-  unfolding detector_closing
-  detector_closes place part all = one_keeps Held (slice_get part.ixl.detectors place) _ part (λ known e.
-      keep.detector place (closing_behind now (begun known.client part.outbox)).calls part.ixl.routes part.ixl.known_signals part.calls all) all
-
-  found_held : (part : StepSoFar) → Held part → Held (found_in now part)
-  found_held part all = closing_keeps Held now signal_closes point_closes detector_closes _ (clocked_held part all)
-
   -- ---- ticks
 
   signal_ticked : (place : ℕ) (part : StepSoFar) → Held part → Held (known_signal_ticking now place part)
@@ -201,4 +182,5 @@ module _ (now : ℕ) (table : Table) (P : List RouteState → List KnownSignalSt
 
   pub step_held : (key : Key) (input : Input) (part : StepSoFar) → Held part → Held (stepped now table key input part)
   unfolding stepped
-  step_held key input part all = ticked_held input _ (ruled_held _ (looked_keeps now table Held quietly _ (given_held key input (found_in now part) (found_held part all))))
+  step_held key input part all = ticked_held input _ (ruled_held _ (over_keeps Held (watching table) (watching_keeps now table Held quietly) (count table) _
+      (given_held key input (record part { ixl = all_clocked now part.ixl }) (clocked_held part all))))

@@ -2,10 +2,9 @@
 use Rattle.simulator_recovery.proofs.Words.Basics.{◌≡◌, ℕ, Bool, true, false, List, [], ◌∷◌, ◌++◌, ◌&&◌, ◌==◌, Option, Some, None, Result, Ok, Err, refl, sym, ap, subst, ◌∙◌, if◌then◌else◌, bytes_eq}
 use Rattle.simulator_recovery.proofs.Words.Links.{Each, answer_to_send, receiving, OutboxState, is_open, is_up, Reason}
 use Rattle.simulator_recovery.proofs.Words.Controllers.{reading, writing, Initialisation, InitialisationCompleted, InitialisationRequest, StartInitialisation, VersionAnswer, VersionCheck, Message, Telegram, SciFault}
-use Rattle.simulator_recovery.proofs.Words.Interlockings.{ClientState, PeerState, is_outside, ClientSoFar, LinkCall, Opens, Ticks, Closes, Sends, Receives, begun, calling, initial_meaning, is_for_client, is_in_turn, is_in_version, is_match, meaning, meaning_of, place_of, report_meaning, state_in, ObjectState, acting, acting_all, at_stage, closing_behind, commanding, following, hearing, is_refused_by_window, meaning_of_item, posting, rising, saying, telegram_to, ticking, Stage}
+use Rattle.simulator_recovery.proofs.Words.Interlockings.{ClientState, PeerState, is_outside, ClientSoFar, LinkCall, Opens, Ticks, Closes, Sends, Receives, begun, calling, initial_meaning, is_for_client, is_in_turn, is_in_version, is_match, meaning, meaning_of, place_of, report_meaning, state_in, ObjectState, acting, acting_all, at_stage, commanding, following, hearing, is_refused_by_window, meaning_of_item, posting, rising, saying, telegram_to, ticking, Stage}
 use Rattle.simulator_spec.specs.ixl_client.declared.command.Command.{Command}
 use Rattle.simulator_recovery.proofs.Lemmas.Ground.EndCalls.{Grows, grows_by, grows_none, grows_then}
-use Rattle.simulator_recovery.proofs.Lemmas.Ground.FoundClients.{closing_each}
 
 -- an item is given, or the link is closed
 abbrev pub IsSaid : LinkCall → Type 0
@@ -148,19 +147,3 @@ commanding_calls now command client outbox = let says = posting_says now _ (begu
 pub ticking_calls : (now : ℕ) (client : ClientState) (outbox : OutboxState) → (ticking now (begun client outbox)).calls ≡ Ticks ∷ Opens ∷ []
 unfolding ticking calling
 ticking_calls now client outbox = refl
-
--- the link is closed for not being caught up any more
-abbrev pub IsFirst : LinkCall → Type 0
-IsFirst (Closes why) = why ≡ Reason.User
-IsFirst _ = ⊥
-
-pub closing_calls : (now : ℕ) (client : ClientState) (outbox : OutboxState) → Each IsFirst (closing_behind now (begun client outbox)).calls
-closing_calls now client outbox = closing_each IsFirst now client outbox refl
-
-pub first_said : (calls : List LinkCall) → Each IsFirst calls → Each IsSaid calls
-first_said [] each = tt
-first_said (Opens ∷ others) each = absurd each.0
-first_said (Ticks ∷ others) each = absurd each.0
-first_said (Closes why ∷ others) each = (tt, first_said others each.1)
-first_said (Sends item ∷ others) each = absurd each.0
-first_said (Receives bytes ∷ others) each = absurd each.0

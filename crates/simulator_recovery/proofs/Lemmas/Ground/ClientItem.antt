@@ -1,14 +1,11 @@
 -- How a client is led by an item that it acts on.
 use Rattle.simulator_recovery.proofs.Words.Basics.{◌≡◌, ◌≢◌, ℕ, zero, suc, ◌+◌, ◌-◌, ◌<◌, ◌==◌, nat_lt, not, Bool, true, false, if◌then◌else◌, List, [], ◌∷◌, ◌++◌, length, map, Option, Some, None, slice_get, refl, sym, ap, subst, ◌∙◌, arith, cond, ◌&&◌, nat_le, position, position_or_len, nat_tests, none-some, same_Some, slice_get_within, ◌≤◌, Result, Ok, Err, bytes_eq, false≢true}
 use Rattle.simulator_recovery.proofs.Words.Links.{deadline, settled, AreTimely, reading_of, AreLinks, Links, LinkState, is_open, is_up, Phase, Reason}
-use Rattle.simulator_recovery.proofs.Words.Interlockings.{ClientState, is_outside, clocked, fallen, watched, Stage, IxlState, KnownDetectorState, KnownPointState, KnownSignalState, as_found, as_node, node_of, or_else, partner_at, Detector, Node, Point, Signal, Table, PeerState, ClientSoFar, Closes, calling, initial_meaning, is_for_client, is_in_turn, is_in_version, is_match, is_status, meaning, meaning_of, place_of, report_meaning, reports_changes, state_in, acted_on, acting, at_stage, following, meaning_of_item, saying, stage_after_report, ObjectState}
+use Rattle.simulator_recovery.proofs.Words.Interlockings.{ClientState, is_outside, clocked, fallen, Stage, IxlState, KnownDetectorState, KnownPointState, KnownSignalState, all_clocked, as_node, clocked_detector, clocked_known_point, clocked_known_signal, node_of, or_else, partner_at, Detector, Node, Point, Signal, detector_after, known_point_after, known_signal_after, Table, PeerState, ClientSoFar, Closes, calling, initial_meaning, is_for_client, is_in_turn, is_in_version, is_match, is_status, meaning, meaning_of, place_of, report_meaning, reports_changes, state_in, acted_on, acting, at_stage, following, meaning_of_item, saying, stage_after_report, ObjectState}
 use Rattle.simulator_recovery.proofs.Words.Stations.{Site, AreLinksOf, client_links, names_at, detector_link, links, partners, point_link, WorldState, link_at, IsWhole}
 use Rattle.simulator_recovery.proofs.Words.Controllers.{reading, SciFault, Initialisation, InitialisationCompleted, InitialisationRequest, StartInitialisation, VersionAnswer, VersionCheck, Message, Telegram}
 use Rattle.simulator_recovery.proofs.Lemmas.Ground.EndCalls.{at_place, map_length, count_push}
 use Rattle.simulator_recovery.proofs.Lemmas.Ground.Steps.{IsThere}
-use Rattle.simulator_recovery.proofs.Lemmas.Ground.FoundClients.{by_closing, shut_link}
-use Rattle.simulator_recovery.proofs.Lemmas.Ground.FoundIxl.{found_client, found_detector, found_point, found_signal, signal_found as signal_found_client, point_found as point_found_client, detector_found as detector_found_client}
-use Rattle.simulator_recovery.proofs.Lemmas.Ground.ShutLinks.{closing_as}
 use Rattle.simulator_recovery.proofs.Lemmas.Ground.DueTests.{is_less, is_not, same_number, either, first_true}
 
 -- ---- to which of its clients the interlocking hands a datagram of a controller: to the one on the link on which it was sent
@@ -88,15 +85,13 @@ clocked_identity : (now : ℕ) (client : ClientState) → (clocked now client).l
 unfolding clocked fallen
 clocked_identity now client = choose (is_up (settled now client.link).phase) ∙ settled_identity now client.link
   where
-    choose : (b : Bool) → (watched now (if b then record client { link = settled now client.link } else record client { link = settled now client.link; stage = Stage.Outside })).link.identity ≡ (settled now client.link).identity
+    choose : (b : Bool) → (if b then record client { link = settled now client.link } else record client { link = settled now client.link; stage = Stage.Outside }).link.identity ≡ (settled now client.link).identity
     choose true = refl
     choose false = refl
 
--- nor does a close
-found_identity : (now : ℕ) (client : ClientState) → (found_client now client).link.identity ≡ client.link.identity
-found_identity now client = by_closing (λ (c : ClientState). c.link.identity ≡ (clocked now client).link.identity) now (clocked now client)
-    (λ behind. ap (λ (l : LinkState). l.identity) (shut_link now (clocked now client)) ∙ closing_as (λ (l : LinkState). l.identity ≡ (clocked now client).link.identity) now (clocked now client).link (λ phase closed_at clock sent sent_at. refl))
-    (λ calm. refl) ∙ clocked_identity now client
+either_client : {K : Type 0} (client : K → ClientState) (b : Bool) (one other : K) (is : ClientState) → client one ≡ is → client other ≡ is → client (if b then one else other) ≡ is
+either_client client true one other is first second = first
+either_client client false one other is first second = second
 
 abbrev of_signal : KnownSignalState → ClientState
 of_signal known_signal = known_signal.client
@@ -107,11 +102,23 @@ of_point known_point = known_point.client
 abbrev of_detector : KnownDetectorState → ClientState
 of_detector detector = detector.client
 
+signal_client : (now : ℕ) (known_signal : KnownSignalState) → (clocked_known_signal now known_signal).client ≡ clocked now known_signal.client
+unfolding known_signal_after
+signal_client now known_signal = either_client of_signal (is_outside (clocked now known_signal.client).stage) _ _ (clocked now known_signal.client) refl refl
+
+point_client : (now : ℕ) (known_point : KnownPointState) → (clocked_known_point now known_point).client ≡ clocked now known_point.client
+unfolding known_point_after
+point_client now known_point = either_client of_point (is_outside (clocked now known_point.client).stage) _ _ (clocked now known_point.client) refl refl
+
+detector_client : (now : ℕ) (detector : KnownDetectorState) → (clocked_detector now detector).client ≡ clocked now detector.client
+unfolding detector_after
+detector_client now detector = either_client of_detector (is_outside (clocked now detector.client).stage) _ _ (clocked now detector.client) refl refl
+
 abbrev partner_of_client : ClientState → ℕ
 partner_of_client client = client.link.identity.partner
 
-found_partner : (now : ℕ) (old new : ClientState) → new ≡ found_client now old → partner_of_client new ≡ partner_of_client old
-found_partner now old new is = ap partner_of_client is ∙ ap (λ identity. identity.partner) (found_identity now old)
+clocked_partner : (now : ℕ) (old new : ClientState) → new ≡ clocked now old → partner_of_client new ≡ partner_of_client old
+clocked_partner now old new is = ap partner_of_client is ∙ ap (λ identity. identity.partner) (clocked_identity now old)
 
 -- ---- the client of a link
 
@@ -197,7 +204,7 @@ module _ (site : Site) (world : WorldState) (these : Links) (are_links : AreLink
   module _ (now : ℕ) (table : Table) (sections : length table.detectors ≡ length site.detectors) (link : ℕ) (below : link < links site) where
     -- a client of this link
     abbrev IsOfLink : Node → Type 0
-    IsOfLink node = (link_at site node ≡ link) × IsThere now table node (as_found now ixl)
+    IsOfLink node = (link_at site node ≡ link) × IsThere now table node (all_clocked now ixl)
 
     abbrev IsFound : Option Node → Type 0
     IsFound found = (node : Node) × (found ≡ Some node) × IsOfLink node
@@ -205,75 +212,75 @@ module _ (site : Site) (world : WorldState) (these : Links) (are_links : AreLink
     abbrev id : ℕ
     id = (names_at site link).server
 
-    signal_found : (place : ℕ) → position (λ (known_signal : KnownSignalState). partner_at id known_signal.client) (map (found_signal now) ixl.known_signals) ≡ Some place → IsOfLink (Signal place)
-    unfolding as_found
+    signal_found : (place : ℕ) → position (λ (known_signal : KnownSignalState). partner_at id known_signal.client) (map (clocked_known_signal now) ixl.known_signals) ≡ Some place → IsOfLink (Signal place)
+    unfolding all_clocked
     signal_found place is =
-        let found = found_at (λ (known_signal : KnownSignalState). partner_at id known_signal.client) (map (found_signal now) ixl.known_signals) place is
-        in let old = mapped_at (found_signal now) ixl.known_signals place found.0 found.1
+        let found = found_at (λ (known_signal : KnownSignalState). partner_at id known_signal.client) (map (clocked_known_signal now) ixl.known_signals) place is
+        in let old = mapped_at (clocked_known_signal now) ixl.known_signals place found.0 found.1
         in let of_link = signal_speaks place old.0 old.1
-        in let partner = found_partner now old.0.client found.0.client (ap of_signal (sym old.2) ∙ signal_found_client now old.0)
+        in let partner = clocked_partner now old.0.client found.0.client (ap of_signal (sym old.2) ∙ signal_client now old.0)
         in (same_link place link of_link.0 below (sym of_link.1 ∙ (sym partner ∙ same_number (partner_of_client found.0.client) id found.2)), (found.0, found.1))
 
-    point_found : (place : ℕ) → position (λ (known_point : KnownPointState). partner_at id known_point.client) (map (found_point now) ixl.known_points) ≡ Some place → IsOfLink (Point place)
-    unfolding as_found
+    point_found : (place : ℕ) → position (λ (known_point : KnownPointState). partner_at id known_point.client) (map (clocked_known_point now) ixl.known_points) ≡ Some place → IsOfLink (Point place)
+    unfolding all_clocked
     point_found place is =
-        let found = found_at (λ (known_point : KnownPointState). partner_at id known_point.client) (map (found_point now) ixl.known_points) place is
-        in let old = mapped_at (found_point now) ixl.known_points place found.0 found.1
+        let found = found_at (λ (known_point : KnownPointState). partner_at id known_point.client) (map (clocked_known_point now) ixl.known_points) place is
+        in let old = mapped_at (clocked_known_point now) ixl.known_points place found.0 found.1
         in let of_link = point_speaks place old.0 old.1
-        in let partner = found_partner now old.0.client found.0.client (ap of_point (sym old.2) ∙ point_found_client now old.0)
+        in let partner = clocked_partner now old.0.client found.0.client (ap of_point (sym old.2) ∙ point_client now old.0)
         in (same_link (point_link site place) link of_link.0 below (sym of_link.1 ∙ (sym partner ∙ same_number (partner_of_client found.0.client) id found.2)), (found.0, found.1))
 
-    detector_found : (place : ℕ) → position (λ (detector : KnownDetectorState). partner_at id detector.client) (map (found_detector now) ixl.detectors) ≡ Some place → IsOfLink (Detector place)
-    unfolding as_found
+    detector_found : (place : ℕ) → position (λ (detector : KnownDetectorState). partner_at id detector.client) (map (clocked_detector now) ixl.detectors) ≡ Some place → IsOfLink (Detector place)
+    unfolding all_clocked
     detector_found place is =
-        let found = found_at (λ (detector : KnownDetectorState). partner_at id detector.client) (map (found_detector now) ixl.detectors) place is
-        in let old = mapped_at (found_detector now) ixl.detectors place found.0 found.1
+        let found = found_at (λ (detector : KnownDetectorState). partner_at id detector.client) (map (clocked_detector now) ixl.detectors) place is
+        in let old = mapped_at (clocked_detector now) ixl.detectors place found.0 found.1
         in let of_link = detector_speaks place old.0 old.1
         in let few = slice_get_within ixl.detectors place old.0 old.1
         in let many = whole.clients.detectors
         in let known = at_place table.detectors place (omega (arith, few, many, sections))
-        in let partner = found_partner now old.0.client found.0.client (ap of_detector (sym old.2) ∙ detector_found_client now old.0)
+        in let partner = clocked_partner now old.0.client found.0.client (ap of_detector (sym old.2) ∙ detector_client now old.0)
         in (same_link (detector_link site place) link of_link.0 below (sym of_link.1 ∙ (sym partner ∙ same_number (partner_of_client found.0.client) id found.2)), (known.0, found.0, known.1, found.1))
 
     abbrev signals : Option ℕ
-    signals = position (λ (known_signal : KnownSignalState). partner_at id known_signal.client) (map (found_signal now) ixl.known_signals)
+    signals = position (λ (known_signal : KnownSignalState). partner_at id known_signal.client) (map (clocked_known_signal now) ixl.known_signals)
 
     abbrev points : Option ℕ
-    points = position (λ (known_point : KnownPointState). partner_at id known_point.client) (map (found_point now) ixl.known_points)
+    points = position (λ (known_point : KnownPointState). partner_at id known_point.client) (map (clocked_known_point now) ixl.known_points)
 
     abbrev detectors : Option ℕ
-    detectors = position (λ (detector : KnownDetectorState). partner_at id detector.client) (map (found_detector now) ixl.detectors)
+    detectors = position (λ (detector : KnownDetectorState). partner_at id detector.client) (map (clocked_detector now) ixl.detectors)
 
     -- the client that has this partner
-    pub addressed_is : (node : Node) × (node_of id (as_found now ixl) ≡ Some node) × IsOfLink node
-    unfolding node_of as_found
-    addressed_is = by_signals (position (λ (known_signal : KnownSignalState). partner_at id known_signal.client) (map (found_signal now) ixl.known_signals)) refl
+    pub addressed_is : (node : Node) × (node_of id (all_clocked now ixl) ≡ Some node) × IsOfLink node
+    unfolding node_of all_clocked
+    addressed_is = by_signals (position (λ (known_signal : KnownSignalState). partner_at id known_signal.client) (map (clocked_known_signal now) ixl.known_signals)) refl
       where
         of_signals : signals ≡ None → link < length site.signals → ⊥
         of_signals none few =
             let many = whole.clients.known_signals
             in let there = at_place ixl.known_signals link (omega (arith, few, many))
-            in let partner = found_partner now there.0.client (found_signal now there.0).client (signal_found_client now there.0)
-            in not_found (λ (known_signal : KnownSignalState). partner_at id known_signal.client) (map (found_signal now) ixl.known_signals) link (found_signal now there.0)
-            (at_mapped (found_signal now) ixl.known_signals link there.0 there.1) (is_same_number (partner_of_client (found_signal now there.0).client) id (partner ∙ (signal_speaks link there.0 there.1).1)) none
+            in let partner = clocked_partner now there.0.client (clocked_known_signal now there.0).client (signal_client now there.0)
+            in not_found (λ (known_signal : KnownSignalState). partner_at id known_signal.client) (map (clocked_known_signal now) ixl.known_signals) link (clocked_known_signal now there.0)
+            (at_mapped (clocked_known_signal now) ixl.known_signals link there.0 there.1) (is_same_number (partner_of_client (clocked_known_signal now there.0).client) id (partner ∙ (signal_speaks link there.0 there.1).1)) none
 
         of_points : points ≡ None → (place : ℕ) → link ≡ point_link site place → place < length site.points → ⊥
         of_points none place is few =
             let many = whole.clients.known_points
             in let there = at_place ixl.known_points place (omega (arith, few, many))
-            in let partner = found_partner now there.0.client (found_point now there.0).client (point_found_client now there.0)
-            in not_found (λ (known_point : KnownPointState). partner_at id known_point.client) (map (found_point now) ixl.known_points) place (found_point now there.0)
-            (at_mapped (found_point now) ixl.known_points place there.0 there.1)
-            (is_same_number (partner_of_client (found_point now there.0).client) id (partner ∙ (point_speaks place there.0 there.1).1 ∙ ap (λ (n : ℕ). (names_at site n).server) (sym is))) none
+            in let partner = clocked_partner now there.0.client (clocked_known_point now there.0).client (point_client now there.0)
+            in not_found (λ (known_point : KnownPointState). partner_at id known_point.client) (map (clocked_known_point now) ixl.known_points) place (clocked_known_point now there.0)
+            (at_mapped (clocked_known_point now) ixl.known_points place there.0 there.1)
+            (is_same_number (partner_of_client (clocked_known_point now there.0).client) id (partner ∙ (point_speaks place there.0 there.1).1 ∙ ap (λ (n : ℕ). (names_at site n).server) (sym is))) none
 
         of_detectors : detectors ≡ None → (place : ℕ) → link ≡ detector_link site place → place < length site.detectors → ⊥
         of_detectors none place is few =
             let many = whole.clients.detectors
             in let there = at_place ixl.detectors place (omega (arith, few, many))
-            in let partner = found_partner now there.0.client (found_detector now there.0).client (detector_found_client now there.0)
-            in not_found (λ (detector : KnownDetectorState). partner_at id detector.client) (map (found_detector now) ixl.detectors) place (found_detector now there.0)
-            (at_mapped (found_detector now) ixl.detectors place there.0 there.1)
-            (is_same_number (partner_of_client (found_detector now there.0).client) id (partner ∙ (detector_speaks place there.0 there.1).1 ∙ ap (λ (n : ℕ). (names_at site n).server) (sym is))) none
+            in let partner = clocked_partner now there.0.client (clocked_detector now there.0).client (detector_client now there.0)
+            in not_found (λ (detector : KnownDetectorState). partner_at id detector.client) (map (clocked_detector now) ixl.detectors) place (clocked_detector now there.0)
+            (at_mapped (clocked_detector now) ixl.detectors place there.0 there.1)
+            (is_same_number (partner_of_client (clocked_detector now there.0).client) id (partner ∙ (detector_speaks place there.0 there.1).1 ∙ ap (λ (n : ℕ). (names_at site n).server) (sym is))) none
 
         nowhere : signals ≡ None → points ≡ None → detectors ≡ None → ⊥
         nowhere no_signal no_point no_detector = choose (nat_lt link (length site.signals)) refl (nat_lt link (length site.signals + length site.points)) refl

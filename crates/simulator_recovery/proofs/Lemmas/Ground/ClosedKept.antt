@@ -2,9 +2,9 @@
 use Rattle.simulator_recovery.proofs.Words.Basics.{◌≡◌, ℕ, List, Option, Some, None, slice_get, refl}
 use Rattle.simulator_recovery.proofs.Words.Links.{reading, Key}
 use Rattle.simulator_recovery.proofs.Words.Controllers.{Aspect, Side}
-use Rattle.simulator_recovery.proofs.Words.Interlockings.{begun, hearing, come_to, freed_by_cancel, is_stop_due, moving_one, proceeding, ruled, withdrawing, Commands, Datagram, Input, Tick, addressed, all_clocked, detector_closing, known_point_closing, known_signal_closing, detector_hearing, detector_ticking, given, known_point_hearing, known_point_ticking, known_signal_hearing, known_signal_ticking, looking, looks, node_hearing, occupied_heard, stepped, Detector, Node, Point, Signal, StepSoFar, detector_after, giving_aspect, giving_move, noted, with_detector, with_one, with_route, Need, Table, is_signal_ready, Command, Phase}
+use Rattle.simulator_recovery.proofs.Words.Interlockings.{begun, hearing, come_to, count, freed_by_cancel, is_stop_due, moving_one, proceeding, ruled, withdrawing, Commands, Datagram, Input, Tick, addressed, all_clocked, detector_hearing, detector_ticking, given, known_point_hearing, known_point_ticking, known_signal_hearing, known_signal_ticking, looking, looks, node_hearing, occupied_heard, stepped, watching, Detector, Node, Point, Signal, StepSoFar, detector_after, giving_aspect, giving_move, noted, over, with_detector, with_one, with_route, Need, Table, is_signal_ready, Command, Phase}
 use Rattle.simulator_spec.specs.ixl_spec.closings.declared.closed.Closings.{Closings}
-use Rattle.simulator_recovery.proofs.Lemmas.Ground.DueShapes.{along_keeps, closing_keeps, found_in, looking_turns, one_keeps, route_holds, seen_in, seen_turns, ticked_keeps, turned_keeps, until_freed, where_both}
+use Rattle.simulator_recovery.proofs.Lemmas.Ground.DueShapes.{along_keeps, looking_turns, one_keeps, over_keeps, route_holds, ticked_keeps, turned_keeps, until_freed, watching_turns, where_both}
 
 module _ (now : ℕ) (table : Table) (closed : Closings) where
   abbrev Stands : StepSoFar → Type 0
@@ -57,24 +57,6 @@ module _ (now : ℕ) (table : Table) (closed : Closings) where
   given_stands key (Datagram bytes) part none is = heard_at bytes (addressed (reading key bytes) part.ixl) part is
   given_stands key (Commands command) part none is = absurd (none command refl)
 
-  -- ---- what the input finds
-
-  signal_closes : (place : ℕ) (part : StepSoFar) → Stands part → Stands (known_signal_closing now place part)
-  unfolding known_signal_closing
-  signal_closes place part is = one_keeps Stands (slice_get part.ixl.known_signals place) _ part (λ known e. is) is
-
-  point_closes : (place : ℕ) (part : StepSoFar) → Stands part → Stands (known_point_closing now place part)
-  unfolding known_point_closing
-  point_closes place part is = one_keeps Stands (slice_get part.ixl.known_points place) _ part (λ known e. is) is
-
-  detector_closes : (place : ℕ) (part : StepSoFar) → Stands part → Stands (detector_closing now place part)
-  unfolding detector_closing
-  detector_closes place part is = one_keeps Stands (slice_get part.ixl.detectors place) _ part (λ known e. is) is
-
-  found_stands : (part : StepSoFar) → Stands part → Stands (found_in now part)
-  unfolding all_clocked
-  found_stands part is = closing_keeps Stands now signal_closes point_closes detector_closes (record part { ixl = all_clocked now part.ixl }) is
-
   -- ---- ticks
 
   signal_stands : (place : ℕ) (part : StepSoFar) → Stands part → Stands (known_signal_ticking now place part)
@@ -92,11 +74,13 @@ module _ (now : ℕ) (table : Table) (closed : Closings) where
   -- ---- a step, up to the moves, and whole
 
   pub moves_stand : (key : Key) (input : Input) (part : StepSoFar) → ((command : Command) → input ≡ Commands command → ⊥) → Stands part
-      → Stands (freed_by_cancel now table (seen_in now table (given now table key input (found_in now part))))
-  moves_stand key input part none is = until_freed Stands now table (λ number change part is. is) withdrawing_stands (given now table key input (found_in now part))
-      (given_stands key input (found_in now part) none (found_stands part is))
+      → Stands (freed_by_cancel now table (over (watching table) (count table) (given now table key input (record part { ixl = all_clocked now part.ixl }))))
+  unfolding all_clocked
+  moves_stand key input part none is = until_freed Stands now table (λ number change part is. is) withdrawing_stands (given now table key input (record part { ixl = all_clocked now part.ixl }))
+      (given_stands key input (record part { ixl = all_clocked now part.ixl }) none is)
 
   pub step_stands : (key : Key) (input : Input) (part : StepSoFar) → ((command : Command) → input ≡ Commands command → ⊥) → Stands part → Stands (stepped now table key input part)
-  unfolding stepped
+  unfolding stepped all_clocked
   step_stands key input part none is = ticked_keeps Stands now signal_stands point_stands detector_stands input _ (ruled_stands _
-      (seen_turns Stands now table (λ number change part is. is) _ (given_stands key input (found_in now part) none (found_stands part is))))
+      (over_keeps Stands (watching table) (watching_turns Stands now table (λ number change part is. is)) (count table) _
+      (given_stands key input (record part { ixl = all_clocked now part.ixl }) none is)))

@@ -1,14 +1,6 @@
 -- What is so of a step of an interlocking so far is kept through its shapes.
 use Rattle.simulator_recovery.proofs.Words.Basics.{◌≡◌, ℕ, zero, suc, ◌<◌, length, arith, Bool, true, false, List, [], ◌∷◌, Option, Some, None, slice_get, if◌then◌else◌, refl, ap, ◌∙◌, Contains}
-use Rattle.simulator_recovery.proofs.Words.Interlockings.{count, ended, ending_authority, freed_by_cancel, freed_by_passage, freeing_by_cancel, freeing_by_passage, freeing_next, moved, moving, moving_one, proceeding, repeated, ruled, withdrawing, withdrawn, RouteState, Commands, Datagram, Input, Tick, all_clocked, all_closing, detector_closing, detector_ticking, known_point_closing, known_point_ticking, known_signal_closing, known_signal_ticking, looking, looking_by, noting, ticked, watching, StepSoFar, along, at_route, over, with_one, with_route, Need, Row, Table}
-
--- what the input of a step finds: the clock has acted, and links that aren't caught up any more are closed
-abbrev pub found_in : ℕ → StepSoFar → StepSoFar
-found_in now part = all_closing now (record part { ixl = all_clocked now part.ixl })
-
--- what the rules find behind the input: routes with authority have watched their approach, and noted their sections
-abbrev pub seen_in : ℕ → Table → StepSoFar → StepSoFar
-seen_in now table heard = over (noting now table) (count table) (over (watching table) (count table) heard)
+use Rattle.simulator_recovery.proofs.Words.Interlockings.{count, ended, ending_authority, freed_by_cancel, freed_by_passage, freeing_by_cancel, freeing_by_passage, freeing_next, moved, moving, moving_one, proceeding, repeated, ruled, withdrawing, withdrawn, RouteState, Commands, Datagram, Input, Tick, detector_ticking, known_point_ticking, known_signal_ticking, looking, looking_by, ticked, watching, StepSoFar, along, at_route, over, with_one, with_route, Need, Row, Table}
 
 module _ (P : StepSoFar → Type 0) where
   pub one_else : {A : Type 0} (found : Option A) (does : A → StepSoFar → StepSoFar) (part : StepSoFar) → ((one : A) → found ≡ Some one → P (does one part)) → (found ≡ None → P part) → P (with_one found does part)
@@ -132,13 +124,6 @@ module _ (P : StepSoFar → Type 0) (now : ℕ) (table : Table) (turns : (number
   unfolding watching
   watching_turns number = route_holds P table number _ (λ row route part there here is. where_both P _ part _ (turns number _ part is) is)
 
-  pub noting_turns : (number : ℕ) (part : StepSoFar) → P part → P (noting now table number part)
-  unfolding noting
-  noting_turns number = route_holds P table number _ (λ row route part there here is. where_both P _ part _ (turns number _ part is) is)
-
-  pub seen_turns : (part : StepSoFar) → P part → P (seen_in now table part)
-  seen_turns part is = over_keeps P (noting now table) noting_turns (count table) _ (over_keeps P (watching table) watching_turns (count table) part is)
-
   pub looking_turns : (look : ℕ × Bool) (part : StepSoFar) → P part → P (looking table look part)
   unfolding looking_by
   looking_turns look = over_keeps P (looking_by look.0 look.1 table) (λ number. route_holds P table number _
@@ -151,15 +136,15 @@ module _ (P : StepSoFar → Type 0) (now : ℕ) (table : Table) (turns : (number
 
   -- up to the moves
   pub until_freed : ((number : ℕ) (part : StepSoFar) → P part → P (withdrawing now table number part)) → (part : StepSoFar) → P part
-      → P (freed_by_cancel now table (seen_in now table part))
+      → P (freed_by_cancel now table (over (watching table) (count table) part))
   until_freed withdraws part is =
       over_keeps P (freeing_by_cancel now table) cancel_turns (count table) (freed_by_passage now table seen)
       (over_keeps P (freeing_by_passage table) (passage_keeps P now table next_turns) (count table) (ended now table seen)
       (over_keeps P (ending_authority now table) ending_turns (count table) (withdrawn now table seen)
-      (over_keeps P (withdrawing now table) withdraws (count table) seen (seen_turns part is))))
+      (over_keeps P (withdrawing now table) withdraws (count table) seen (over_keeps P (watching table) watching_turns (count table) part is))))
     where
       seen : StepSoFar
-      seen = seen_in now table part
+      seen = over (watching table) (count table) part
 
 pub ticked_keeps : (P : StepSoFar → Type 0) (now : ℕ) → ((place : ℕ) (part : StepSoFar) → P part → P (known_signal_ticking now place part))
     → ((place : ℕ) (part : StepSoFar) → P part → P (known_point_ticking now place part))
@@ -169,16 +154,3 @@ ticked_keeps P now signals points detectors Tick part is = over_keeps P (detecto
     (over_keeps P (known_point_ticking now) points (length part.ixl.known_points) _ (over_keeps P (known_signal_ticking now) signals (length part.ixl.known_signals) part is))
 ticked_keeps P now signals points detectors (Datagram bytes) part is = is
 ticked_keeps P now signals points detectors (Commands command) part is = is
-
--- what each close keeps is kept by all of them
-pub closing_keeps : (P : StepSoFar → Type 0) (now : ℕ) → ((place : ℕ) (part : StepSoFar) → P part → P (known_signal_closing now place part))
-    → ((place : ℕ) (part : StepSoFar) → P part → P (known_point_closing now place part))
-    → ((place : ℕ) (part : StepSoFar) → P part → P (detector_closing now place part)) → (part : StepSoFar) → P part → P (all_closing now part)
-unfolding all_closing
-closing_keeps P now signals points detectors part is = over_keeps P (detector_closing now) detectors (length part.ixl.detectors) _
-    (over_keeps P (known_point_closing now) points (length part.ixl.known_points) _ (over_keeps P (known_signal_closing now) signals (length part.ixl.known_signals) part is))
-
--- what routes keep that watch and note is kept by both
-pub seen_keeps : (P : StepSoFar → Type 0) (now : ℕ) (table : Table) → ((number : ℕ) (part : StepSoFar) → P part → P (watching table number part))
-    → ((number : ℕ) (part : StepSoFar) → P part → P (noting now table number part)) → (part : StepSoFar) → P part → P (seen_in now table part)
-seen_keeps P now table watches notes part is = over_keeps P (noting now table) notes (count table) _ (over_keeps P (watching table) watches (count table) part is)

@@ -8,10 +8,6 @@ pub each_both : {X : Type 0} (P : X → Type 0) (one other : List X) → Each P 
 each_both P [] other first second = second
 each_both P (head ∷ one) other first second = (first.0, each_both P one other first.1 second)
 
-pub each_front : {X : Type 0} (P : X → Type 0) (one other : List X) → Each P (one ++ other) → Each P one
-each_front P [] other each = tt
-each_front P (head ∷ one) other each = (each.0, each_front P one other each.1)
-
 pub each_mapped : {X Y : Type 0} (P : Y → Type 0) (f : X → Y) (list : List X) → Each (λ x. P (f x)) list → Each P (map f list)
 each_mapped P f [] each = tt
 each_mapped P f (first ∷ others) each = (each.0, each_mapped P f others each.1)

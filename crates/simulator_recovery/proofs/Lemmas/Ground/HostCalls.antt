@@ -1,11 +1,10 @@
 -- What a host calls its link to in a step: it receives what comes, then says something or closes the link, and ticks last.
-use Rattle.simulator_recovery.proofs.Words.Basics.{◌≡◌, ℕ, zero, suc, Bool, true, false, List, [], ◌∷◌, ◌++◌, append_assoc, Option, Some, None, ◌==◌, not, Result, Ok, Err, refl, sym, ap, if◌then◌else◌, is_ok}
-use Rattle.simulator_recovery.proofs.Words.Links.{Each, answer_to_send, receiving, is_open, Reason, SendFault}
-use Rattle.simulator_recovery.proofs.Words.Controllers.{reading, SciFault, Telegram, Behaviour, HostState, HostSoFar, LinkCall, Closes, Sends, Receives, at_stage, is_completed, said, silent, then_do, meaning, acting, acting_all, after_refusal, answering, beating, beginning, closes_when_refused, closing, commanding, following, found, given, going_on, goes_on, hearing, host_step, initial_status, initialising, is_admitted, most_objects, most_owed, paying, paying_first, posting, paid, posting_all, received, telling_status, violating, Input, Report, Sense, NoMatch, Match, InitialisationCompleted, InitialisationRequest, StartInitialisation, VersionAnswer, VersionCheck, Message, Stage}
+use Rattle.simulator_recovery.proofs.Words.Basics.{◌≡◌, ℕ, zero, suc, Bool, true, false, List, [], ◌∷◌, ◌++◌, Option, Some, None, ◌==◌, not, Result, Ok, Err, refl, if◌then◌else◌, is_ok}
+use Rattle.simulator_recovery.proofs.Words.Links.{Each, answer_to_send, receiving, is_open}
+use Rattle.simulator_recovery.proofs.Words.Controllers.{reading, SciFault, Telegram, Behaviour, HostState, HostSoFar, LinkCall, Closes, Sends, Receives, at_stage, is_completed, said, silent, then_do, meaning, acting, acting_all, answering, beating, beginning, commanding, following, given, goes_on, hearing, host_step, initial_status, initialising, is_admitted, most_objects, most_owed, paying, paying_first, posting, paid, posting_all, received, telling_status, violating, Input, Report, Sense, NoMatch, Match, InitialisationCompleted, InitialisationRequest, StartInitialisation, VersionAnswer, VersionCheck, Message, Stage}
 use Rattle.simulator_spec.specs.object_host.Host.{Ticks}
 use Rattle.simulator_spec.specs.object_host.Meaning.{commanding as by_stage}
 use Rattle.simulator_recovery.proofs.Lemmas.Ground.EndCalls.{each_both}
-use Rattle.simulator_recovery.proofs.Lemmas.Ground.FoundHosts.{by_found, IsCalm, step_calm}
 
 -- an item is given, or the link is closed
 abbrev pub IsSaid : LinkCall → Type 0
@@ -13,18 +12,6 @@ IsSaid Ticks = ⊥
 IsSaid (Closes why) = Unit {0}
 IsSaid (Sends item) = Unit {0}
 IsSaid (Receives bytes) = ⊥
-
--- the link is closed for not being caught up any more
-abbrev pub IsFirst : LinkCall → Type 0
-IsFirst (Closes why) = why ≡ Reason.User
-IsFirst _ = ⊥
-
-pub first_said : (calls : List LinkCall) → Each IsFirst calls → Each IsSaid calls
-first_said [] each = tt
-first_said (Ticks ∷ others) each = absurd each.0
-first_said (Closes why ∷ others) each = (tt, first_said others each.1)
-first_said (Sends item ∷ others) each = absurd each.0
-first_said (Receives bytes ∷ others) each = absurd each.0
 
 module _ {Object : Type 0} (does : Behaviour Object) (now : ℕ) where
   abbrev Says : HostSoFar Object → Type 0
@@ -117,15 +104,6 @@ module _ {Object : Type 0} (does : Behaviour Object) (now : ℕ) where
       choose true said = said
       choose false said = tt
 
-  -- a report that is refused may close the link
-  refusal_says : (answer : Result Unit SendFault) (host : HostState Object) → Says (after_refusal does now answer host)
-  unfolding after_refusal
-  refusal_says answer host = choose (closes_when_refused does answer host)
-    where
-      choose : (b : Bool) → Says (if b then closing now Reason.Window host else silent host)
-      choose true = (tt, tt)
-      choose false = tt
-
   paying_first_says : (report : Option Report) (host : HostState Object) → Says (paying_first does now report host)
   unfolding posting
   paying_first_says None host = tt
@@ -134,13 +112,10 @@ module _ {Object : Type 0} (does : Behaviour Object) (now : ℕ) where
       sent : HostSoFar Object
       sent = posting now report host
 
-      refused : HostState Object → HostSoFar Object
-      refused = after_refusal does now (answer_to_send now host.link)
-
-      cases : (b c : Bool) → Says (if not b then silent (paid does host) else (if c then record sent { host = paid does sent.host } else then_do sent refused))
+      cases : (b c : Bool) → Says (if not b then silent (paid does host) else (if c then record sent { host = paid does sent.host } else sent))
       cases false c = tt
       cases true true = (tt, tt)
-      cases true false = says_then sent refused (tt, tt) (refusal_says (answer_to_send now host.link))
+      cases true false = (tt, tt)
 
   paying_says : (most : ℕ) (host : HostState Object) → Says (paying does now most host)
   unfolding paying
@@ -155,51 +130,23 @@ module _ {Object : Type 0} (does : Behaviour Object) (now : ℕ) where
       choose true said = said
       choose false said = paying_first_says (does.owed host.object) host
 
-  -- before the input the link may be closed
-  found_first : (host : HostState Object) → Each IsFirst (found does now host).calls
-  found_first host = by_found does now (λ (part : HostSoFar Object). Each IsFirst part.calls) host (λ calm. tt) (λ behind. (refl, tt))
-
-  found_says : (host : HostState Object) → Each IsSaid (found does now host).calls
-  found_says host = first_said (found does now host).calls (found_first host)
-
   -- a tick: something is said, and then the link ticks
   pub tick_calls : (host : HostState Object) → (front : List LinkCall) × (Each IsSaid front × ((host_step does now Input.Tick host).calls ≡ front ++ Ticks ∷ []))
-  unfolding host_step going_on given beating
-  tick_calls host = ((found does now host).calls ++ paid_for, (each_both IsSaid (found does now host).calls paid_for (found_says host) (paying_says most_owed (found does now host).host), sym (append_assoc (found does now host).calls paid_for (Ticks ∷ []))))
-    where
-      paid_for : List LinkCall
-      paid_for = (paying does now most_owed (found does now host).host).calls
+  unfolding host_step given beating
+  tick_calls host = ((paying does now most_owed (beginning does now host)).calls, (paying_says most_owed (beginning does now host), refl))
 
   -- a contact
   pub sense_calls : (contact : Sense) (host : HostState Object) → Each IsSaid (host_step does now (Input.Sense contact) host).calls
-  unfolding host_step going_on given beating
-  sense_calls contact host = each_both IsSaid (found does now host).calls (paid_for ++ []) (found_says host) (each_both IsSaid paid_for [] (paying_says most_owed sensed) tt)
+  unfolding host_step given beating
+  sense_calls contact host = each_both IsSaid (paying does now most_owed sensed).calls [] (paying_says most_owed sensed) tt
     where
       sensed : HostState Object
-      sensed = record (found does now host).host { object = does.after_sense now contact (found does now host).host.object }
+      sensed = record (beginning does now host) { object = does.after_sense now contact (beginning does now host).object }
 
-      paid_for : List LinkCall
-      paid_for = (paying does now most_owed sensed).calls
-
-  -- what comes is received, behind a close at most
-  pub datagram_calls : (bytes : _) (host : HostState Object)
-      → (first : List LinkCall) × (others : List LinkCall) × (Each IsFirst first × (Each IsSaid others × ((host_step does now (Input.Datagram bytes) host).calls ≡ first ++ Receives bytes.now ∷ others)))
-  unfolding host_step going_on given beating hearing received
-  datagram_calls bytes host = ((found does now host).calls, (acted ++ paid_for) ++ [], (found_first host, (each_both IsSaid (acted ++ paid_for) [] (each_both IsSaid acted paid_for (acting_all_says (receiving now bytes.now begun.link).items (received now bytes.now (receiving now bytes.now begun.link) begun).host) (paying_says most_owed (hearing does now bytes.now begun).host)) tt, refl)))
-    where
-      begun : HostState Object
-      begun = (found does now host).host
-
-      acted : List LinkCall
-      acted = (acting_all does now (receiving now bytes.now begun.link).items (received now bytes.now (receiving now bytes.now begun.link) begun).host).calls
-
-      paid_for : List LinkCall
-      paid_for = (paying does now most_owed (hearing does now bytes.now begun).host).calls
-
-  -- and it comes first to a host that is calm
-  pub calm_comes : (bytes : _) (host : HostState Object) → IsCalm does now host → (others : List LinkCall) × ((host_step does now (Input.Datagram bytes) host).calls ≡ Receives bytes.now ∷ others)
-  unfolding going_on given beating hearing received
-  calm_comes bytes host calm = ((acted ++ paid_for) ++ [], ap (λ (part : HostSoFar Object). part.calls) (step_calm does now (Input.Datagram bytes) host calm))
+  -- what comes is received first
+  pub datagram_calls : (bytes : _) (host : HostState Object) → (others : List LinkCall) × (Each IsSaid others × ((host_step does now (Input.Datagram bytes) host).calls ≡ Receives bytes.now ∷ others))
+  unfolding host_step given beating hearing received
+  datagram_calls bytes host = ((acted ++ paid_for) ++ [], (each_both IsSaid (acted ++ paid_for) [] (each_both IsSaid acted paid_for (acting_all_says (receiving now bytes.now begun.link).items (received now bytes.now (receiving now bytes.now begun.link) begun).host) (paying_says most_owed (hearing does now bytes.now begun).host)) tt, refl))
     where
       begun : HostState Object
       begun = beginning does now host

@@ -2,11 +2,11 @@
 use Rattle.simulator_recovery.proofs.Words.Basics.{◌≡◌, ℕ, zero, suc, Bool, true, false, List, [], ◌∷◌, map, Option, Some, None, slice_get, ◌⊎◌, inl, inr, if◌then◌else◌, refl, sym, ap, subst, none-some, same_Some}
 use Rattle.simulator_recovery.proofs.Words.Links.{reading, Key}
 use Rattle.simulator_recovery.proofs.Words.Controllers.{Aspect, Side}
-use Rattle.simulator_recovery.proofs.Words.Interlockings.{ClientState, is_outside, ClientSoFar, begun, clocked, closing_behind, commanding, hearing, ticking, commanded_by, obeyed, refusal, unmoved_for, is_move_due, is_proceed_due, is_stop_due, moving_one, proceeding, ruled, withdrawing, IxlState, KnownDetectorState, KnownPointState, KnownSignalState, RouteState, changed, Commands, Datagram, Input, Tick, addressed, all_clocked, clocked_detector, clocked_known_point, clocked_known_signal, detector_closing, known_point_closing, known_signal_closing, detector_hearing, detector_ticking, given, known_point_hearing, known_point_ticking, known_signal_hearing, known_signal_ticking, looking, looks, node_hearing, occupied_heard, stepped, ticked, Detector, Node, Point, Signal, StepSoFar, detector_after, giving_aspect, giving_move, known_point_after, known_signal_after, noted, with_detector, with_one, with_route, Need, Table, Command, Refusal}
+use Rattle.simulator_recovery.proofs.Words.Interlockings.{ClientState, is_outside, ClientSoFar, begun, clocked, commanding, hearing, ticking, commanded_by, obeyed, refusal, unmoved_for, count, is_move_due, is_proceed_due, is_stop_due, moving_one, proceeding, ruled, withdrawing, IxlState, KnownDetectorState, KnownPointState, KnownSignalState, RouteState, changed, Commands, Datagram, Input, Tick, addressed, all_clocked, clocked_detector, clocked_known_point, clocked_known_signal, detector_hearing, detector_ticking, given, known_point_hearing, known_point_ticking, known_signal_hearing, known_signal_ticking, looking, looks, node_hearing, occupied_heard, stepped, ticked, watching, Detector, Node, Point, Signal, StepSoFar, detector_after, giving_aspect, giving_move, known_point_after, known_signal_after, noted, with_detector, with_one, with_route, Need, Table, Command, Refusal}
 use Rattle.simulator_recovery.proofs.Words.Stations.{Places}
 use Rattle.simulator_recovery.proofs.Words.Recovery.{EachClient}
 use Rattle.simulator_spec.specs.ixl_client.declared.command.Command.{Command as ClientCommand}
-use Rattle.simulator_recovery.proofs.Lemmas.Ground.DueShapes.{along_keeps, closing_keeps, found_in, looking_turns, one_keeps, route_holds, seen_turns, ticked_keeps, turned_keeps, where_both}
+use Rattle.simulator_recovery.proofs.Lemmas.Ground.DueShapes.{along_keeps, looking_turns, one_keeps, over_keeps, route_holds, ticked_keeps, turned_keeps, watching_turns, where_both}
 use Rattle.simulator_recovery.proofs.Lemmas.Ground.DueTests.{either}
 use Rattle.simulator_recovery.proofs.Lemmas.Ground.MovedAtOnce.{moved_keeps}
 
@@ -66,36 +66,32 @@ detector_client occupied client = either (λ (known : KnownDetectorState). known
 pub record ClientsKeep (now : ℕ) (P0 P1 : Node → ClientState → Type 0) : Type 0 where
   pub clock : (node : Node) (client : ClientState) → P0 node client → P1 node (clocked now client)
   pub weaker : (node : Node) (client : ClientState) → P1 node client → P0 node client
-  -- where it isn't caught up any more its link is closed, before the input
-  pub closes : (node : Node) (part : ClientSoFar) → P1 node part.client → P1 node (closing_behind now part).client
   pub hears : (node : Node) (bytes : List ℕ) (part : ClientSoFar) → P1 node part.client → P0 node (hearing now bytes part).client
   pub commands : (node : Node) (command : ClientCommand) (part : ClientSoFar) → P0 node part.client → P0 node (commanding now command part).client
   pub ticks : (node : Node) (part : ClientSoFar) → P0 node part.client → P0 node (ticking now part).client
 
--- one of them is set
-module _ (P : Node → ClientState → Type 0) where
-  signal_set : (place : ℕ) (new : KnownSignalState) (ixl : IxlState) → P (Signal place) new.client → EachClient P ixl → EachClient P (record ixl { known_signals = changed (λ old. new) place ixl.known_signals })
+module _ (now : ℕ) (P0 P1 : Node → ClientState → Type 0) (keep : ClientsKeep now P0 P1) where
+  signal_set : (place : ℕ) (new : KnownSignalState) (ixl : IxlState) → P0 (Signal place) new.client → EachClient P0 ixl → EachClient P0 (record ixl { known_signals = changed (λ old. new) place ixl.known_signals })
   signal_set place new ixl is all = record { signals = λ k known e. choose k known (changed_at (λ old. new) place ixl.known_signals k known e); points = all.points; detectors = all.detectors }
     where
-      choose : (k : ℕ) (known : KnownSignalState) → ((k ≡ place) × (x : KnownSignalState) × (slice_get ixl.known_signals place ≡ Some x) × (known ≡ new)) ⊎ (slice_get ixl.known_signals k ≡ Some known) → P (Signal k) known.client
-      choose k known (inl (e, x, f, g)) = subst (λ (n : ℕ). P (Signal n) known.client) (sym e) (subst (λ (y : KnownSignalState). P (Signal place) y.client) (sym g) is)
+      choose : (k : ℕ) (known : KnownSignalState) → ((k ≡ place) × (x : KnownSignalState) × (slice_get ixl.known_signals place ≡ Some x) × (known ≡ new)) ⊎ (slice_get ixl.known_signals k ≡ Some known) → P0 (Signal k) known.client
+      choose k known (inl (e, x, f, g)) = subst (λ (n : ℕ). P0 (Signal n) known.client) (sym e) (subst (λ (y : KnownSignalState). P0 (Signal place) y.client) (sym g) is)
       choose k known (inr f) = all.signals k known f
 
-  point_set : (place : ℕ) (new : KnownPointState) (ixl : IxlState) → P (Point place) new.client → EachClient P ixl → EachClient P (record ixl { known_points = changed (λ old. new) place ixl.known_points })
+  point_set : (place : ℕ) (new : KnownPointState) (ixl : IxlState) → P0 (Point place) new.client → EachClient P0 ixl → EachClient P0 (record ixl { known_points = changed (λ old. new) place ixl.known_points })
   point_set place new ixl is all = record { signals = all.signals; points = λ k known e. choose k known (changed_at (λ old. new) place ixl.known_points k known e); detectors = all.detectors }
     where
-      choose : (k : ℕ) (known : KnownPointState) → ((k ≡ place) × (x : KnownPointState) × (slice_get ixl.known_points place ≡ Some x) × (known ≡ new)) ⊎ (slice_get ixl.known_points k ≡ Some known) → P (Point k) known.client
-      choose k known (inl (e, x, f, g)) = subst (λ (n : ℕ). P (Point n) known.client) (sym e) (subst (λ (y : KnownPointState). P (Point place) y.client) (sym g) is)
+      choose : (k : ℕ) (known : KnownPointState) → ((k ≡ place) × (x : KnownPointState) × (slice_get ixl.known_points place ≡ Some x) × (known ≡ new)) ⊎ (slice_get ixl.known_points k ≡ Some known) → P0 (Point k) known.client
+      choose k known (inl (e, x, f, g)) = subst (λ (n : ℕ). P0 (Point n) known.client) (sym e) (subst (λ (y : KnownPointState). P0 (Point place) y.client) (sym g) is)
       choose k known (inr f) = all.points k known f
 
-  detector_set : (place : ℕ) (new : KnownDetectorState) (ixl : IxlState) → P (Detector place) new.client → EachClient P ixl → EachClient P (record ixl { detectors = changed (λ old. new) place ixl.detectors })
+  detector_set : (place : ℕ) (new : KnownDetectorState) (ixl : IxlState) → P0 (Detector place) new.client → EachClient P0 ixl → EachClient P0 (record ixl { detectors = changed (λ old. new) place ixl.detectors })
   detector_set place new ixl is all = record { signals = all.signals; points = all.points; detectors = λ k known e. choose k known (changed_at (λ old. new) place ixl.detectors k known e) }
     where
-      choose : (k : ℕ) (known : KnownDetectorState) → ((k ≡ place) × (x : KnownDetectorState) × (slice_get ixl.detectors place ≡ Some x) × (known ≡ new)) ⊎ (slice_get ixl.detectors k ≡ Some known) → P (Detector k) known.client
-      choose k known (inl (e, x, f, g)) = subst (λ (n : ℕ). P (Detector n) known.client) (sym e) (subst (λ (y : KnownDetectorState). P (Detector place) y.client) (sym g) is)
+      choose : (k : ℕ) (known : KnownDetectorState) → ((k ≡ place) × (x : KnownDetectorState) × (slice_get ixl.detectors place ≡ Some x) × (known ≡ new)) ⊎ (slice_get ixl.detectors k ≡ Some known) → P0 (Detector k) known.client
+      choose k known (inl (e, x, f, g)) = subst (λ (n : ℕ). P0 (Detector n) known.client) (sym e) (subst (λ (y : KnownDetectorState). P0 (Detector place) y.client) (sym g) is)
       choose k known (inr f) = all.detectors k known f
 
-module _ (now : ℕ) (P0 P1 : Node → ClientState → Type 0) (keep : ClientsKeep now P0 P1) where
   abbrev Kept : StepSoFar → Type 0
   Kept part = EachClient P0 part.ixl
 
@@ -107,12 +103,12 @@ module _ (now : ℕ) (P0 P1 : Node → ClientState → Type 0) (keep : ClientsKe
   aspect_kept : (signal : ℕ) (aspect : Aspect) (part : StepSoFar) → EachClient P0 part.ixl → EachClient P0 (giving_aspect now signal aspect part).ixl
   unfolding giving_aspect
   aspect_kept signal aspect part all = one_keeps Kept (slice_get part.ixl.known_signals signal) _ part (λ known e.
-      signal_set P0 signal _ part.ixl (subst (P0 (Signal signal)) (sym (signal_client _ _ _ _)) (keep.commands (Signal signal) (ClientCommand.Indicate aspect) (begun known.client part.outbox) (all.signals signal known e))) all) all
+      signal_set signal _ part.ixl (subst (P0 (Signal signal)) (sym (signal_client _ _ _ _)) (keep.commands (Signal signal) (ClientCommand.Indicate aspect) (begun known.client part.outbox) (all.signals signal known e))) all) all
 
   move_kept : (point : ℕ) (side : Side) (part : StepSoFar) → EachClient P0 part.ixl → EachClient P0 (giving_move now point side part).ixl
   unfolding giving_move
   move_kept point side part all = one_keeps Kept (slice_get part.ixl.known_points point) _ part (λ known e.
-      point_set P0 point _ part.ixl (subst (P0 (Point point)) (sym (point_client _ _ _)) (keep.commands (Point point) (ClientCommand.Move side) (begun known.client part.outbox) (all.points point known e))) all) all
+      point_set point _ part.ixl (subst (P0 (Point point)) (sym (point_client _ _ _)) (keep.commands (Point point) (ClientCommand.Move side) (begun known.client part.outbox) (all.points point known e))) all) all
 
   -- ---- the rules
 
@@ -147,14 +143,14 @@ module _ (now : ℕ) (P0 P1 : Node → ClientState → Type 0) (keep : ClientsKe
     hearing_kept : (bytes : List ℕ) (node : Node) (part : StepSoFar) → EachClient P1 part.ixl → EachClient P0 (node_hearing now table bytes node part).ixl
     unfolding node_hearing known_signal_hearing known_point_hearing detector_hearing
     hearing_kept bytes (Signal place) part all = one_keeps Kept (slice_get part.ixl.known_signals place) _ part (λ known e.
-        signal_set P0 place _ part.ixl (subst (P0 (Signal place)) (sym (signal_client _ _ _ _)) (keep.hears (Signal place) bytes (begun known.client part.outbox) (all.signals place known e))) (weaker_all part.ixl all)) (weaker_all part.ixl all)
+        signal_set place _ part.ixl (subst (P0 (Signal place)) (sym (signal_client _ _ _ _)) (keep.hears (Signal place) bytes (begun known.client part.outbox) (all.signals place known e))) (weaker_all part.ixl all)) (weaker_all part.ixl all)
     hearing_kept bytes (Point place) part all = one_keeps Kept (slice_get part.ixl.known_points place) _ part (λ known e.
-        point_set P0 place _ part.ixl (subst (P0 (Point place)) (sym (point_client _ _ _)) (keep.hears (Point place) bytes (begun known.client part.outbox) (all.points place known e))) (weaker_all part.ixl all)) (weaker_all part.ixl all)
+        point_set place _ part.ixl (subst (P0 (Point place)) (sym (point_client _ _ _)) (keep.hears (Point place) bytes (begun known.client part.outbox) (all.points place known e))) (weaker_all part.ixl all)) (weaker_all part.ixl all)
     hearing_kept bytes (Detector place) part all = one_keeps Kept (slice_get table.detectors place) _ part (λ sections f. one_keeps Kept (slice_get part.ixl.detectors place) _ part (λ known e.
         let done = hearing now bytes (begun known.client part.outbox)
         in let heard = with_detector place (detector_after (occupied_heard done.heard known.occupied) done.client) (noted (Detector place) done part)
         in along_keeps Kept (looking table) (looking_turns Kept now table with_route_kept) (looks sections known done.heard done.client) heard
-        (detector_set P0 place (detector_after (occupied_heard done.heard known.occupied) done.client) part.ixl (subst (P0 (Detector place)) (sym (detector_client (occupied_heard done.heard known.occupied) done.client)) (keep.hears (Detector place) bytes (begun known.client part.outbox) (all.detectors place known e))) (weaker_all part.ixl all)))
+        (detector_set place (detector_after (occupied_heard done.heard known.occupied) done.client) part.ixl (subst (P0 (Detector place)) (sym (detector_client (occupied_heard done.heard known.occupied) done.client)) (keep.hears (Detector place) bytes (begun known.client part.outbox) (all.detectors place known e))) (weaker_all part.ixl all)))
         (weaker_all part.ixl all)) (weaker_all part.ixl all)
 
     -- ---- the input
@@ -200,46 +196,27 @@ module _ (now : ℕ) (P0 P1 : Node → ClientState → Type 0) (keep : ClientsKe
           subst (λ (k : KnownDetectorState). P1 (Detector place) k.client) (sym found.2) (subst (P1 (Detector place)) (sym (detector_client _ _)) (keep.clock (Detector place) found.0.client (all.detectors place found.0 found.1)));
     }
 
-    -- ---- what the input finds
-
-    signal_closes : (place : ℕ) (part : StepSoFar) → EachClient P1 part.ixl → EachClient P1 (known_signal_closing now place part).ixl
-    unfolding known_signal_closing
-    signal_closes place part all = one_keeps (λ (q : StepSoFar). EachClient P1 q.ixl) (slice_get part.ixl.known_signals place) _ part (λ known e.
-        signal_set P1 place _ part.ixl (subst (P1 (Signal place)) (sym (signal_client _ _ _ _)) (keep.closes (Signal place) (begun known.client part.outbox) (all.signals place known e))) all) all
-
-    point_closes : (place : ℕ) (part : StepSoFar) → EachClient P1 part.ixl → EachClient P1 (known_point_closing now place part).ixl
-    unfolding known_point_closing
-    point_closes place part all = one_keeps (λ (q : StepSoFar). EachClient P1 q.ixl) (slice_get part.ixl.known_points place) _ part (λ known e.
-        point_set P1 place _ part.ixl (subst (P1 (Point place)) (sym (point_client _ _ _)) (keep.closes (Point place) (begun known.client part.outbox) (all.points place known e))) all) all
-
-    detector_closes : (place : ℕ) (part : StepSoFar) → EachClient P1 part.ixl → EachClient P1 (detector_closing now place part).ixl
-    unfolding detector_closing
-    detector_closes place part all = one_keeps (λ (q : StepSoFar). EachClient P1 q.ixl) (slice_get part.ixl.detectors place) _ part (λ known e.
-        detector_set P1 place _ part.ixl (subst (P1 (Detector place)) (sym (detector_client _ _)) (keep.closes (Detector place) (begun known.client part.outbox) (all.detectors place known e))) all) all
-
-    found_kept : (part : StepSoFar) → EachClient P0 part.ixl → EachClient P1 (found_in now part).ixl
-    found_kept part all = closing_keeps (λ (q : StepSoFar). EachClient P1 q.ixl) now signal_closes point_closes detector_closes _ (clocked_kept part.ixl all)
-
     -- ---- ticks
 
     signal_ticked : (place : ℕ) (part : StepSoFar) → EachClient P0 part.ixl → EachClient P0 (known_signal_ticking now place part).ixl
     unfolding known_signal_ticking
     signal_ticked place part all = one_keeps Kept (slice_get part.ixl.known_signals place) _ part (λ known e.
-        signal_set P0 place _ part.ixl (subst (P0 (Signal place)) (sym (signal_client _ _ _ _)) (keep.ticks (Signal place) (begun known.client part.outbox) (all.signals place known e))) all) all
+        signal_set place _ part.ixl (subst (P0 (Signal place)) (sym (signal_client _ _ _ _)) (keep.ticks (Signal place) (begun known.client part.outbox) (all.signals place known e))) all) all
 
     point_ticked : (place : ℕ) (part : StepSoFar) → EachClient P0 part.ixl → EachClient P0 (known_point_ticking now place part).ixl
     unfolding known_point_ticking
     point_ticked place part all = one_keeps Kept (slice_get part.ixl.known_points place) _ part (λ known e.
-        point_set P0 place _ part.ixl (subst (P0 (Point place)) (sym (point_client _ _ _)) (keep.ticks (Point place) (begun known.client part.outbox) (all.points place known e))) all) all
+        point_set place _ part.ixl (subst (P0 (Point place)) (sym (point_client _ _ _)) (keep.ticks (Point place) (begun known.client part.outbox) (all.points place known e))) all) all
 
     detector_ticked : (place : ℕ) (part : StepSoFar) → EachClient P0 part.ixl → EachClient P0 (detector_ticking now place part).ixl
     unfolding detector_ticking
     detector_ticked place part all = one_keeps Kept (slice_get part.ixl.detectors place) _ part (λ known e.
-        detector_set P0 place _ part.ixl (subst (P0 (Detector place)) (sym (detector_client _ _)) (keep.ticks (Detector place) (begun known.client part.outbox) (all.detectors place known e))) all) all
+        detector_set place _ part.ixl (subst (P0 (Detector place)) (sym (detector_client _ _)) (keep.ticks (Detector place) (begun known.client part.outbox) (all.detectors place known e))) all) all
 
     ticked_kept : (input : Input) (part : StepSoFar) → EachClient P0 part.ixl → EachClient P0 (ticked now input part).ixl
     ticked_kept = ticked_keeps Kept now signal_ticked point_ticked detector_ticked
 
     pub step_kept : (key : Key) (input : Input) (part : StepSoFar) → EachClient P0 part.ixl → EachClient P0 (stepped now table key input part).ixl
     unfolding stepped
-    step_kept key input part all = ticked_kept input _ (ruled_kept _ (seen_turns Kept now table with_route_kept _ (given_kept key input (found_in now part) (found_kept part all))))
+    step_kept key input part all = ticked_kept input _ (ruled_kept _ (over_keeps Kept (watching table) (watching_turns Kept now table with_route_kept) (count table) _
+        (given_kept key input (record part { ixl = all_clocked now part.ixl }) (clocked_kept part.ixl all))))

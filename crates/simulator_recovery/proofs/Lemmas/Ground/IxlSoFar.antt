@@ -2,10 +2,10 @@
 use Rattle.simulator_recovery.proofs.Words.Basics.{◌≡◌, ◌≢◌, ℕ, zero, suc, ◌∙◌, ◌==◌, Bool, true, false, List, [], ◌∷◌, ◌++◌, map, Option, Some, None, slice_get, ◌⊎◌, inl, inr, if◌then◌else◌, refl, sym, ap, subst, arith, ◌&&◌, not, false≢true, nat_tests, none-some, same_Some}
 use Rattle.simulator_recovery.proofs.Words.Links.{OutboxState, reading, Key}
 use Rattle.simulator_recovery.proofs.Words.Controllers.{Aspect, Side}
-use Rattle.simulator_recovery.proofs.Words.Interlockings.{lies_in_closed, ClientState, is_available, is_ready, ClientSoFar, LinkCall, begun, clocked, closing_behind, commanding, hearing, ticking, commanded_by, obeyed, refusal, unmoved_for, is_move_due, is_over_clear, is_proceed_due, is_stop_due, is_unmoved, is_waiting, moving_one, proceeding, ruled, withdrawing, IxlState, KnownDetectorState, KnownPointState, KnownSignalState, RouteState, changed, Commands, Datagram, Input, Tick, addressed, all_clocked, clocked_detector, clocked_known_point, clocked_known_signal, detector_hearing, detector_ticking, given, known_point_hearing, known_point_ticking, known_signal_hearing, known_signal_ticking, looking, looks, node_hearing, occupied_heard, stepped, ticked, Detector, Node, Point, Signal, StepSoFar, detector_after, giving_aspect, giving_move, noted, with_detector, with_one, with_route, Need, Row, Table, at, passes, all_clear, all_known, is_at_known_stop, is_held_with_authority, is_known, is_point_available, is_signal_ready, Command, Refusal, known_signal_closing, known_point_closing, detector_closing}
+use Rattle.simulator_recovery.proofs.Words.Interlockings.{lies_in_closed, ClientState, is_available, is_ready, ClientSoFar, LinkCall, begun, clocked, commanding, hearing, ticking, commanded_by, obeyed, refusal, unmoved_for, count, is_move_due, is_over_clear, is_proceed_due, is_stop_due, is_unmoved, is_waiting, moving_one, proceeding, ruled, withdrawing, IxlState, KnownDetectorState, KnownPointState, KnownSignalState, RouteState, changed, Commands, Datagram, Input, Tick, addressed, all_clocked, clocked_detector, clocked_known_point, clocked_known_signal, detector_hearing, detector_ticking, given, known_point_hearing, known_point_ticking, known_signal_hearing, known_signal_ticking, looking, looks, node_hearing, occupied_heard, stepped, ticked, watching, Detector, Node, Point, Signal, StepSoFar, detector_after, giving_aspect, giving_move, noted, with_detector, with_one, with_route, Need, Row, Table, at, passes, all_clear, all_known, is_at_known_stop, is_held_with_authority, is_known, is_point_available, is_signal_ready, Command, Refusal}
 use Rattle.simulator_recovery.proofs.Words.Recovery.{EachClient}
 use Rattle.simulator_spec.specs.ixl_client.declared.command.Command.{Command as ClientCommand}
-use Rattle.simulator_recovery.proofs.Lemmas.Ground.DueShapes.{along_keeps, closing_keeps, found_in, looking_turns, one_keeps, route_holds, seen_turns, ticked_keeps, turned_keeps, where_both, where_keeps}
+use Rattle.simulator_recovery.proofs.Lemmas.Ground.DueShapes.{along_keeps, looking_turns, one_keeps, over_keeps, route_holds, ticked_keeps, turned_keeps, watching_turns, where_both, where_keeps}
 use Rattle.simulator_recovery.proofs.Lemmas.Ground.IxlClients.{detector_client, mapped_at, point_client, signal_client}
 use Rattle.simulator_recovery.proofs.Lemmas.Ground.MovedAtOnce.{moved_keeps}
 
@@ -86,9 +86,6 @@ test_of list place test one e holds = ap (passes test) (sym e) ∙ holds
 pub record SoFarKeeps (now : ℕ) (Gives : ℕ → Aspect → Type 0) (Comes : List ℕ → Type 0) (Before : Node → ClientState → Type 0) (Clocked Holds : Node → ClientState → List LinkCall → Type 0) : Type 0 where
   pub clock : (node : Node) (client : ClientState) → Before node client → Clocked node (clocked now client) []
   pub weaker : (node : Node) (client : ClientState) (calls : List LinkCall) → Clocked node client calls → Holds node client calls
-  -- where it isn't caught up any more its link is closed, before the input
-  pub closes : (node : Node) (client : ClientState) (outbox : OutboxState) (calls : List LinkCall) → Clocked node client calls
-      → Clocked node (closing_behind now (begun client outbox)).client (calls ++ (closing_behind now (begun client outbox)).calls)
   pub hears : (node : Node) (bytes : List ℕ) (client : ClientState) (outbox : OutboxState) (calls : List LinkCall) → Comes bytes → Clocked node client calls
       → Holds node (hearing now bytes (begun client outbox)).client (calls ++ (hearing now bytes (begun client outbox)).calls)
   pub aspects : (place : ℕ) (aspect : Aspect) (client : ClientState) (outbox : OutboxState) (calls : List LinkCall) → Gives place aspect → is_ready client.stage ≡ true → Holds (Signal place) client calls
@@ -98,16 +95,19 @@ pub record SoFarKeeps (now : ℕ) (Gives : ℕ → Aspect → Type 0) (Comes : L
   pub ticks : (node : Node) (client : ClientState) (outbox : OutboxState) (calls : List LinkCall) → Holds node client calls
       → Holds node (ticking now (begun client outbox)).client (calls ++ (ticking now (begun client outbox)).calls)
 
--- every client, with the calls of its link
-pub record All (P : Node → ClientState → List LinkCall → Type 0) (part : StepSoFar) : Type 0 where
-  pub signals : (place : ℕ) (known : KnownSignalState) → slice_get part.ixl.known_signals place ≡ Some known → P (Signal place) known.client (at_node (Signal place) part.calls)
-  pub points : (place : ℕ) (known : KnownPointState) → slice_get part.ixl.known_points place ≡ Some known → P (Point place) known.client (at_node (Point place) part.calls)
-  pub detectors : (place : ℕ) (known : KnownDetectorState) → slice_get part.ixl.detectors place ≡ Some known → P (Detector place) known.client (at_node (Detector place) part.calls)
+module _ (now : ℕ) (Gives : ℕ → Aspect → Type 0) (Comes : List ℕ → Type 0) (Before : Node → ClientState → Type 0) (Clocked Holds : Node → ClientState → List LinkCall → Type 0) (keep : SoFarKeeps now Gives Comes Before Clocked Holds) where
+  -- every client, with the calls of its link
+  pub record All (P : Node → ClientState → List LinkCall → Type 0) (part : StepSoFar) : Type 0 where
+    pub signals : (place : ℕ) (known : KnownSignalState) → slice_get part.ixl.known_signals place ≡ Some known → P (Signal place) known.client (at_node (Signal place) part.calls)
+    pub points : (place : ℕ) (known : KnownPointState) → slice_get part.ixl.known_points place ≡ Some known → P (Point place) known.client (at_node (Point place) part.calls)
+    pub detectors : (place : ℕ) (known : KnownDetectorState) → slice_get part.ixl.detectors place ≡ Some known → P (Detector place) known.client (at_node (Detector place) part.calls)
 
-module _ (Holds : Node → ClientState → List LinkCall → Type 0) where
+  abbrev Held : StepSoFar → Type 0
+  Held = All Holds
+
   -- a client is another, by these calls more
-  signal_set : (place : ℕ) (new : KnownSignalState) (done : ClientSoFar) (part : StepSoFar) → Holds (Signal place) new.client (at_node (Signal place) part.calls ++ done.calls) → All Holds part
-      → All Holds (record (noted (Signal place) done part) { ixl = record part.ixl { known_signals = changed (λ old. new) place part.ixl.known_signals } })
+  signal_set : (place : ℕ) (new : KnownSignalState) (done : ClientSoFar) (part : StepSoFar) → Holds (Signal place) new.client (at_node (Signal place) part.calls ++ done.calls) → Held part
+      → Held (record (noted (Signal place) done part) { ixl = record part.ixl { known_signals = changed (λ old. new) place part.ixl.known_signals } })
   signal_set place new done part is all = record {
     signals = λ k known e. choose k known (set_at place new part.ixl.known_signals k known e);
     points = λ k known e. subst (Holds (Point k) known.client) (sym (at_other (Point k) (Signal place) refl part.calls done.calls)) (all.points k known e);
@@ -122,8 +122,8 @@ module _ (Holds : Node → ClientState → List LinkCall → Type 0) where
           (subst (λ (y : KnownSignalState). Holds (Signal place) y.client (at_node (Signal place) after)) (sym g) (subst (Holds (Signal place) new.client) (sym (at_itself (Signal place) part.calls done.calls)) is))
       choose k known (inr (differ, f)) = subst (Holds (Signal k) known.client) (sym (at_other (Signal k) (Signal place) (other_place k place (λ same. differ (sym same))) part.calls done.calls)) (all.signals k known f)
 
-  point_set : (place : ℕ) (new : KnownPointState) (done : ClientSoFar) (part : StepSoFar) → Holds (Point place) new.client (at_node (Point place) part.calls ++ done.calls) → All Holds part
-      → All Holds (record (noted (Point place) done part) { ixl = record part.ixl { known_points = changed (λ old. new) place part.ixl.known_points } })
+  point_set : (place : ℕ) (new : KnownPointState) (done : ClientSoFar) (part : StepSoFar) → Holds (Point place) new.client (at_node (Point place) part.calls ++ done.calls) → Held part
+      → Held (record (noted (Point place) done part) { ixl = record part.ixl { known_points = changed (λ old. new) place part.ixl.known_points } })
   point_set place new done part is all = record {
     signals = λ k known e. subst (Holds (Signal k) known.client) (sym (at_other (Signal k) (Point place) refl part.calls done.calls)) (all.signals k known e);
     points = λ k known e. choose k known (set_at place new part.ixl.known_points k known e);
@@ -138,8 +138,8 @@ module _ (Holds : Node → ClientState → List LinkCall → Type 0) where
           (subst (λ (y : KnownPointState). Holds (Point place) y.client (at_node (Point place) after)) (sym g) (subst (Holds (Point place) new.client) (sym (at_itself (Point place) part.calls done.calls)) is))
       choose k known (inr (differ, f)) = subst (Holds (Point k) known.client) (sym (at_other (Point k) (Point place) (other_place k place (λ same. differ (sym same))) part.calls done.calls)) (all.points k known f)
 
-  detector_set : (place : ℕ) (new : KnownDetectorState) (done : ClientSoFar) (part : StepSoFar) → Holds (Detector place) new.client (at_node (Detector place) part.calls ++ done.calls) → All Holds part
-      → All Holds (record (noted (Detector place) done part) { ixl = record part.ixl { detectors = changed (λ old. new) place part.ixl.detectors } })
+  detector_set : (place : ℕ) (new : KnownDetectorState) (done : ClientSoFar) (part : StepSoFar) → Holds (Detector place) new.client (at_node (Detector place) part.calls ++ done.calls) → Held part
+      → Held (record (noted (Detector place) done part) { ixl = record part.ixl { detectors = changed (λ old. new) place part.ixl.detectors } })
   detector_set place new done part is all = record {
     signals = λ k known e. subst (Holds (Signal k) known.client) (sym (at_other (Signal k) (Detector place) refl part.calls done.calls)) (all.signals k known e);
     points = λ k known e. subst (Holds (Point k) known.client) (sym (at_other (Point k) (Detector place) refl part.calls done.calls)) (all.points k known e);
@@ -154,10 +154,6 @@ module _ (Holds : Node → ClientState → List LinkCall → Type 0) where
           (subst (λ (y : KnownDetectorState). Holds (Detector place) y.client (at_node (Detector place) after)) (sym g) (subst (Holds (Detector place) new.client) (sym (at_itself (Detector place) part.calls done.calls)) is))
       choose k known (inr (differ, f)) = subst (Holds (Detector k) known.client) (sym (at_other (Detector k) (Detector place) (other_place k place (λ same. differ (sym same))) part.calls done.calls)) (all.detectors k known f)
 
-module _ (now : ℕ) (Gives : ℕ → Aspect → Type 0) (Comes : List ℕ → Type 0) (Before : Node → ClientState → Type 0) (Clocked Holds : Node → ClientState → List LinkCall → Type 0) (keep : SoFarKeeps now Gives Comes Before Clocked Holds) where
-  abbrev Held : StepSoFar → Type 0
-  Held = All Holds
-
   with_route_held : (number : ℕ) (change : RouteState → RouteState) (part : StepSoFar) → Held part → Held (with_route number change part)
   with_route_held number change part all = record { signals = all.signals; points = all.points; detectors = all.detectors }
 
@@ -166,14 +162,14 @@ module _ (now : ℕ) (Gives : ℕ → Aspect → Type 0) (Comes : List ℕ → T
   aspect_held : (signal : ℕ) (aspect : Aspect) (part : StepSoFar) → Gives signal aspect → is_signal_ready part.ixl signal ≡ true → Held part → Held (giving_aspect now signal aspect part)
   unfolding giving_aspect
   aspect_held signal aspect part gives ready all = one_keeps Held (slice_get part.ixl.known_signals signal) _ part (λ known e.
-      signal_set Holds signal _ (commanding now (ClientCommand.Indicate aspect) (begun known.client part.outbox)) part
+      signal_set signal _ (commanding now (ClientCommand.Indicate aspect) (begun known.client part.outbox)) part
       (subst (λ (c : ClientState). Holds (Signal signal) c (at_node (Signal signal) part.calls ++ (commanding now (ClientCommand.Indicate aspect) (begun known.client part.outbox)).calls)) (sym (signal_client _ _ _ _))
       (keep.aspects signal aspect known.client part.outbox (at_node (Signal signal) part.calls) gives (test_of part.ixl.known_signals signal (λ k. is_ready k.client.stage) known e ready) (all.signals signal known e))) all) all
 
   move_held : (point : ℕ) (side : Side) (part : StepSoFar) → is_point_available part.ixl point ≡ true → Held part → Held (giving_move now point side part)
   unfolding giving_move
   move_held point side part available all = one_keeps Held (slice_get part.ixl.known_points point) _ part (λ known e.
-      point_set Holds point _ (commanding now (ClientCommand.Move side) (begun known.client part.outbox)) part
+      point_set point _ (commanding now (ClientCommand.Move side) (begun known.client part.outbox)) part
       (subst (λ (c : ClientState). Holds (Point point) c (at_node (Point point) part.calls ++ (commanding now (ClientCommand.Move side) (begun known.client part.outbox)).calls)) (sym (point_client _ _ _))
       (keep.moves point side known.client part.outbox (at_node (Point point) part.calls) (test_of part.ixl.known_points point (λ k. is_available k.client.stage) known e available) (all.points point known e))) all) all
 
@@ -232,18 +228,18 @@ module _ (now : ℕ) (Gives : ℕ → Aspect → Type 0) (Comes : List ℕ → T
     hearing_held : (bytes : List ℕ) (node : Node) (part : StepSoFar) → Comes bytes → All Clocked part → Held (node_hearing now table bytes node part)
     unfolding node_hearing known_signal_hearing known_point_hearing detector_hearing
     hearing_held bytes (Signal place) part comes all = one_keeps Held (slice_get part.ixl.known_signals place) _ part (λ known e.
-        signal_set Holds place _ (hearing now bytes (begun known.client part.outbox)) part
+        signal_set place _ (hearing now bytes (begun known.client part.outbox)) part
         (subst (λ (c : ClientState). Holds (Signal place) c (at_node (Signal place) part.calls ++ (hearing now bytes (begun known.client part.outbox)).calls)) (sym (signal_client _ _ _ _))
         (keep.hears (Signal place) bytes known.client part.outbox (at_node (Signal place) part.calls) comes (all.signals place known e))) (weaker_all part all)) (weaker_all part all)
     hearing_held bytes (Point place) part comes all = one_keeps Held (slice_get part.ixl.known_points place) _ part (λ known e.
-        point_set Holds place _ (hearing now bytes (begun known.client part.outbox)) part
+        point_set place _ (hearing now bytes (begun known.client part.outbox)) part
         (subst (λ (c : ClientState). Holds (Point place) c (at_node (Point place) part.calls ++ (hearing now bytes (begun known.client part.outbox)).calls)) (sym (point_client _ _ _))
         (keep.hears (Point place) bytes known.client part.outbox (at_node (Point place) part.calls) comes (all.points place known e))) (weaker_all part all)) (weaker_all part all)
     hearing_held bytes (Detector place) part comes all = one_keeps Held (slice_get table.detectors place) _ part (λ sections f. one_keeps Held (slice_get part.ixl.detectors place) _ part (λ known e.
         let done = hearing now bytes (begun known.client part.outbox)
         in let heard = with_detector place (detector_after (occupied_heard done.heard known.occupied) done.client) (noted (Detector place) done part)
         in along_keeps Held (looking table) (looking_turns Held now table with_route_held) (looks sections known done.heard done.client) heard
-        (detector_set Holds place (detector_after (occupied_heard done.heard known.occupied) done.client) done part
+        (detector_set place (detector_after (occupied_heard done.heard known.occupied) done.client) done part
         (subst (λ (c : ClientState). Holds (Detector place) c (at_node (Detector place) part.calls ++ done.calls)) (sym (detector_client (occupied_heard done.heard known.occupied) done.client))
         (keep.hears (Detector place) bytes known.client part.outbox (at_node (Detector place) part.calls) comes (all.detectors place known e))) (weaker_all part all)))
         (weaker_all part all)) (weaker_all part all)
@@ -293,52 +289,26 @@ module _ (now : ℕ) (Gives : ℕ → Aspect → Type 0) (Comes : List ℕ → T
           (subst (λ (cs : List (Node × LinkCall)). Clocked (Detector place) (clocked now found.0.client) (at_node (Detector place) cs)) (sym none) (keep.clock (Detector place) found.0.client (all.detectors place found.0 found.1))));
     }
 
-    -- ---- what the input finds
-
-    signal_closes : (place : ℕ) (part : StepSoFar) → All Clocked part → All Clocked (known_signal_closing now place part)
-    unfolding known_signal_closing
-    signal_closes place part all = one_keeps (All Clocked) (slice_get part.ixl.known_signals place) _ part (λ known e.
-        signal_set Clocked place _ (closing_behind now (begun known.client part.outbox)) part
-        (subst (λ (c : ClientState). Clocked (Signal place) c (at_node (Signal place) part.calls ++ (closing_behind now (begun known.client part.outbox)).calls)) (sym (signal_client _ _ _ _))
-        (keep.closes (Signal place) known.client part.outbox (at_node (Signal place) part.calls) (all.signals place known e))) all) all
-
-    point_closes : (place : ℕ) (part : StepSoFar) → All Clocked part → All Clocked (known_point_closing now place part)
-    unfolding known_point_closing
-    point_closes place part all = one_keeps (All Clocked) (slice_get part.ixl.known_points place) _ part (λ known e.
-        point_set Clocked place _ (closing_behind now (begun known.client part.outbox)) part
-        (subst (λ (c : ClientState). Clocked (Point place) c (at_node (Point place) part.calls ++ (closing_behind now (begun known.client part.outbox)).calls)) (sym (point_client _ _ _))
-        (keep.closes (Point place) known.client part.outbox (at_node (Point place) part.calls) (all.points place known e))) all) all
-
-    detector_closes : (place : ℕ) (part : StepSoFar) → All Clocked part → All Clocked (detector_closing now place part)
-    unfolding detector_closing
-    detector_closes place part all = one_keeps (All Clocked) (slice_get part.ixl.detectors place) _ part (λ known e.
-        detector_set Clocked place _ (closing_behind now (begun known.client part.outbox)) part
-        (subst (λ (c : ClientState). Clocked (Detector place) c (at_node (Detector place) part.calls ++ (closing_behind now (begun known.client part.outbox)).calls)) (sym (detector_client _ _))
-        (keep.closes (Detector place) known.client part.outbox (at_node (Detector place) part.calls) (all.detectors place known e))) all) all
-
-    found_held : (part : StepSoFar) → part.calls ≡ [] → EachClient Before part.ixl → All Clocked (found_in now part)
-    found_held part none all = closing_keeps (All Clocked) now signal_closes point_closes detector_closes _ (clocked_held part none all)
-
     -- ---- ticks
 
     signal_ticked : (place : ℕ) (part : StepSoFar) → Held part → Held (known_signal_ticking now place part)
     unfolding known_signal_ticking
     signal_ticked place part all = one_keeps Held (slice_get part.ixl.known_signals place) _ part (λ known e.
-        signal_set Holds place _ (ticking now (begun known.client part.outbox)) part
+        signal_set place _ (ticking now (begun known.client part.outbox)) part
         (subst (λ (c : ClientState). Holds (Signal place) c (at_node (Signal place) part.calls ++ (ticking now (begun known.client part.outbox)).calls)) (sym (signal_client _ _ _ _))
         (keep.ticks (Signal place) known.client part.outbox (at_node (Signal place) part.calls) (all.signals place known e))) all) all
 
     point_ticked : (place : ℕ) (part : StepSoFar) → Held part → Held (known_point_ticking now place part)
     unfolding known_point_ticking
     point_ticked place part all = one_keeps Held (slice_get part.ixl.known_points place) _ part (λ known e.
-        point_set Holds place _ (ticking now (begun known.client part.outbox)) part
+        point_set place _ (ticking now (begun known.client part.outbox)) part
         (subst (λ (c : ClientState). Holds (Point place) c (at_node (Point place) part.calls ++ (ticking now (begun known.client part.outbox)).calls)) (sym (point_client _ _ _))
         (keep.ticks (Point place) known.client part.outbox (at_node (Point place) part.calls) (all.points place known e))) all) all
 
     detector_ticked : (place : ℕ) (part : StepSoFar) → Held part → Held (detector_ticking now place part)
     unfolding detector_ticking
     detector_ticked place part all = one_keeps Held (slice_get part.ixl.detectors place) _ part (λ known e.
-        detector_set Holds place _ (ticking now (begun known.client part.outbox)) part
+        detector_set place _ (ticking now (begun known.client part.outbox)) part
         (subst (λ (c : ClientState). Holds (Detector place) c (at_node (Detector place) part.calls ++ (ticking now (begun known.client part.outbox)).calls)) (sym (detector_client _ _))
         (keep.ticks (Detector place) known.client part.outbox (at_node (Detector place) part.calls) (all.detectors place known e))) all) all
 
@@ -348,4 +318,5 @@ module _ (now : ℕ) (Gives : ℕ → Aspect → Type 0) (Comes : List ℕ → T
     pub step_held : (key : Key) (input : Input) (part : StepSoFar) → ((bytes : List ℕ) → input ≡ Datagram bytes → Comes bytes) → part.calls ≡ [] → EachClient Before part.ixl → Held (stepped now table key input part)
     unfolding stepped
     step_held key input part comes none all = ticked_held input _ (ruled_held _
-        (seen_turns Held now table with_route_held _ (given_held key input (found_in now part) comes (found_held part none all))))
+        (over_keeps Held (watching table) (watching_turns Held now table with_route_held) (count table) _
+        (given_held key input (record part { ixl = all_clocked now part.ixl }) comes (clocked_held part none all))))

@@ -1,14 +1,13 @@
 -- The client and the controller of each link of a station belong together, after every list of events.
 use Rattle.simulator_recovery.proofs.Words.Basics.{◌≡◌, ℕ, zero, suc, ◌∙◌, Bool, true, false, List, [], ◌∷◌, map, Some, slice_get, refl, sym, ap, subst, if◌then◌else◌, slice_index_or, same_Some}
 use Rattle.simulator_recovery.proofs.Words.Controllers.{Aspect, Message, Occupancy, Position, IndicateAspect, IndicatedAspect, HostState, is_in_version, Sense, SignalState, indicates, signal_behaviour, told, point_behaviour, PointState, detection_behaviour, changed, is_same, losing, settled, with_section, Section}
-use Rattle.simulator_recovery.proofs.Words.Interlockings.{PeerState, new_client, clocked, closing_behind, commanding, hearing, ticking, KnownDetectorState, KnownPointState, KnownSignalState, Node, Table}
+use Rattle.simulator_recovery.proofs.Words.Interlockings.{PeerState, new_client, clocked, commanding, hearing, ticking, KnownDetectorState, KnownPointState, KnownSignalState, Node, Table}
 use Rattle.simulator_recovery.proofs.Words.Stations.{telegram_version, DetectorEntry, Site, Point as PointEntry, Signal as SignalEntry, Beginning, Outset, named_section, new_detector, new_detector_of, new_ixl, new_known_point_of, new_known_signal_of, new_point, new_signal, world_at, happens, WorldState, Event, IsReached}
 use Rattle.simulator_recovery.proofs.Words.Recovery.{EachClient, AreMatchedAll, IsPeerAt, SpeaksAt, name_of, section_names, Any, HasNames, IndicatesSpoken}
 use Rattle.simulator_spec.specs.tds_ctl.Sections as sections
 use Rattle.simulator_spec.specs.tds_ctl.Sections.{paying, sensing}
 use Rattle.simulator_recovery.proofs.Lemmas.Talk.ClientLinks.{clocked_peer, commanding_peer, hearing_peer, ticking_peer}
-use Rattle.simulator_recovery.proofs.Lemmas.Ground.FoundClients.{closing_peer}
-use Rattle.simulator_recovery.proofs.Lemmas.Ground.HostKeeps.{Kept, ObjectKeeps, new_kept, KeptSo, from_so, step_keeps_so}
+use Rattle.simulator_recovery.proofs.Lemmas.Ground.HostKeeps.{Kept, ObjectKeeps, new_kept, step_keeps}
 use Rattle.simulator_recovery.proofs.Lemmas.Ground.IxlClients.{ClientsKeep, mapped_at}
 use Rattle.simulator_recovery.proofs.Lemmas.Ground.StationKeeps.{StationKeeps, always_kept, kept_first, kept_on}
 use Rattle.simulator_recovery.proofs.Lemmas.Ground.StationKeeps as stations
@@ -26,7 +25,6 @@ module _ (site : Site) where
   speaking now = record {
     clock = λ node client is. same_peer node client.peer (clocked now client).peer (clocked_peer now client) is;
     weaker = λ node client is. is;
-    closes = λ node part is. same_peer node part.client.peer (closing_behind now part).client.peer (closing_peer now part) is;
     hears = λ node bytes part is. same_peer node part.client.peer (hearing now bytes part).client.peer (hearing_peer now bytes part) is;
     commands = λ node command part is. same_peer node part.client.peer (commanding now command part).client.peer (commanding_peer now command part) is;
     ticks = λ node part is. same_peer node part.client.peer (ticking now part).client.peer (ticking_peer now part) is;
@@ -115,67 +113,47 @@ module _ (site : Site) where
   abbrev pub KeptDetector : DetectorEntry → HostState (List Section) → Type 0
   KeptDetector entry = Kept detection_behaviour (HasNames (section_names site entry)) spoken entry.name site.station.name (detectors_keep (section_names site entry))
 
-  -- and as strict as the station
-  abbrev StrictSignal : SignalEntry → HostState SignalState → Type 0
-  StrictSignal entry = KeptSo signal_behaviour (IndicatesSpoken site) spoken entry.name site.station.name signals_keep site.station.trains
-
-  abbrev StrictPoint : PointEntry → HostState PointState → Type 0
-  StrictPoint entry = KeptSo point_behaviour Any spoken entry.name site.station.name points_keep site.station.trains
-
-  abbrev pub StrictDetector : DetectorEntry → HostState (List Section) → Type 0
-  StrictDetector entry = KeptSo detection_behaviour (HasNames (section_names site entry)) spoken entry.name site.station.name (detectors_keep (section_names site entry)) site.station.trains
-
   abbrev pub OfSignal : ℕ → HostState SignalState → Type 0
-  OfSignal place host = (entry : SignalEntry) → slice_get site.signals place ≡ Some entry → StrictSignal entry host
+  OfSignal place host = (entry : SignalEntry) → slice_get site.signals place ≡ Some entry → KeptSignal entry host
 
   abbrev pub OfPoint : ℕ → HostState PointState → Type 0
-  OfPoint place host = (entry : PointEntry) → slice_get site.points place ≡ Some entry → StrictPoint entry host
+  OfPoint place host = (entry : PointEntry) → slice_get site.points place ≡ Some entry → KeptPoint entry host
 
   abbrev OfDetector : ℕ → HostState (List Section) → Type 0
-  OfDetector place host = (entry : DetectorEntry) → slice_get site.detectors place ≡ Some entry → StrictDetector entry host
+  OfDetector place host = (entry : DetectorEntry) → slice_get site.detectors place ≡ Some entry → KeptDetector entry host
 
   made_names : (occupied : List Occupancy) (list : List _) → map name_of (map (λ section. sections.made (named_section site occupied section)) list) ≡ map (λ section. slice_index_or site.sections section.0 []) list
   made_names occupied [] = refl
   made_names occupied (first ∷ others) = ap (λ (rest : List (List ℕ)). slice_index_or site.sections first.0 [] ∷ rest) (made_names occupied others)
 
-  new_signal_strict : (begins : Beginning) (entry : SignalEntry) → StrictSignal entry (new_signal site begins entry)
-  new_signal_strict begins entry = new_kept signal_behaviour (IndicatesSpoken site) spoken entry.name site.station.name signals_keep _ begins.first begins.clock _ site.station.trains refl
-
-  new_point_strict : (begins : Beginning) (position : Position) (entry : PointEntry) → StrictPoint entry (new_point site begins position entry)
-  new_point_strict begins position entry = new_kept point_behaviour Any spoken entry.name site.station.name points_keep _ begins.first begins.clock _ site.station.trains tt
-
-  new_detector_strict : (begins : Beginning) (occupied : List Occupancy) (entry : DetectorEntry) → StrictDetector entry (new_detector site begins occupied entry)
-  new_detector_strict begins occupied entry =
-      new_kept detection_behaviour (HasNames (section_names site entry)) spoken entry.name site.station.name (detectors_keep (section_names site entry)) _ begins.first begins.clock _ site.station.trains (made_names occupied entry.sections)
-
   pub new_signal_kept : (begins : Beginning) (entry : SignalEntry) → KeptSignal entry (new_signal site begins entry)
-  new_signal_kept begins entry = from_so signal_behaviour (IndicatesSpoken site) spoken entry.name site.station.name signals_keep site.station.trains _ (new_signal_strict begins entry)
+  new_signal_kept begins entry = new_kept signal_behaviour (IndicatesSpoken site) spoken entry.name site.station.name signals_keep _ begins.first begins.clock _ refl
 
   pub new_point_kept : (begins : Beginning) (position : Position) (entry : PointEntry) → KeptPoint entry (new_point site begins position entry)
-  new_point_kept begins position entry = from_so point_behaviour Any spoken entry.name site.station.name points_keep site.station.trains _ (new_point_strict begins position entry)
+  new_point_kept begins position entry = new_kept point_behaviour Any spoken entry.name site.station.name points_keep _ begins.first begins.clock _ tt
 
   pub new_detector_kept : (begins : Beginning) (occupied : List Occupancy) (entry : DetectorEntry) → KeptDetector entry (new_detector site begins occupied entry)
   new_detector_kept begins occupied entry =
-      from_so detection_behaviour (HasNames (section_names site entry)) spoken entry.name site.station.name (detectors_keep (section_names site entry)) site.station.trains _ (new_detector_strict begins occupied entry)
+      new_kept detection_behaviour (HasNames (section_names site entry)) spoken entry.name site.station.name (detectors_keep (section_names site entry)) _ begins.first begins.clock _ (made_names occupied entry.sections)
 
   pub keeps : StationKeeps site (SpeaksAt site) (λ now. SpeaksAt site) OfSignal OfPoint OfDetector
   keeps = record {
     clients_keep = speaking;
     new_clients = new_peers;
-    signal_steps = λ now input place host is entry e. step_keeps_so signal_behaviour (IndicatesSpoken site) spoken entry.name site.station.name signals_keep site.station.trains now input host (is entry e);
-    new_signal_is = λ begins entry place e other f. subst (λ (x : SignalEntry). StrictSignal x (new_signal site begins entry)) (same_Some entry other (sym e ∙ f)) (new_signal_strict begins entry);
-    point_steps = λ now input place host is entry e. step_keeps_so point_behaviour Any spoken entry.name site.station.name points_keep site.station.trains now input host (is entry e);
-    new_point_is = λ begins position entry place e other f. subst (λ (x : PointEntry). StrictPoint x (new_point site begins position entry)) (same_Some entry other (sym e ∙ f)) (new_point_strict begins position entry);
-    detector_steps = λ now input place host is entry e. step_keeps_so detection_behaviour (HasNames (section_names site entry)) spoken entry.name site.station.name (detectors_keep (section_names site entry)) site.station.trains now input host (is entry e);
-    new_detector_is = λ begins occupied entry place e other f. subst (λ (x : DetectorEntry). StrictDetector x (new_detector site begins occupied entry)) (same_Some entry other (sym e ∙ f)) (new_detector_strict begins occupied entry);
+    signal_steps = λ now input place host is entry e. step_keeps signal_behaviour (IndicatesSpoken site) spoken entry.name site.station.name signals_keep now input host (is entry e);
+    new_signal_is = λ begins entry place e other f. subst (λ (x : SignalEntry). KeptSignal x (new_signal site begins entry)) (same_Some entry other (sym e ∙ f)) (new_signal_kept begins entry);
+    point_steps = λ now input place host is entry e. step_keeps point_behaviour Any spoken entry.name site.station.name points_keep now input host (is entry e);
+    new_point_is = λ begins position entry place e other f. subst (λ (x : PointEntry). KeptPoint x (new_point site begins position entry)) (same_Some entry other (sym e ∙ f)) (new_point_kept begins position entry);
+    detector_steps = λ now input place host is entry e. step_keeps detection_behaviour (HasNames (section_names site entry)) spoken entry.name site.station.name (detectors_keep (section_names site entry)) now input host (is entry e);
+    new_detector_is = λ begins occupied entry place e other f. subst (λ (x : DetectorEntry). KeptDetector x (new_detector site begins occupied entry)) (same_Some entry other (sym e ∙ f)) (new_detector_kept begins occupied entry);
   }
 
   pub all_matched : (table : Table) (world : WorldState) → IsReached site table world → AreMatchedAll site world
   all_matched table world reached = record {
     clients = all.clients;
-    signals = λ place c entry e f. let k = all.of_signals place c e entry f in (record { own_name = k.own_is; peer_name = k.peer_is; version = k.version_is; is_strict = k.strict_is }, k.object);
-    points = λ place c entry e f. let k = all.of_points place c e entry f in record { own_name = k.own_is; peer_name = k.peer_is; version = k.version_is; is_strict = k.strict_is };
-    detectors = λ place c entry e f. let k = all.of_detectors place c e entry f in (record { own_name = k.own_is; peer_name = k.peer_is; version = k.version_is; is_strict = k.strict_is }, k.object);
+    signals = λ place c entry e f. let k = all.of_signals place c e entry f in (record { own_name = k.own_is; peer_name = k.peer_is; version = k.version_is }, k.object);
+    points = λ place c entry e f. let k = all.of_points place c e entry f in record { own_name = k.own_is; peer_name = k.peer_is; version = k.version_is };
+    detectors = λ place c entry e f. let k = all.of_detectors place c e entry f in (record { own_name = k.own_is; peer_name = k.peer_is; version = k.version_is }, k.object);
   }
     where
       all : stations.Kept site table (SpeaksAt site) (λ now. SpeaksAt site) OfSignal OfPoint OfDetector keeps world

@@ -1,9 +1,9 @@
 -- What the nodes of a station call the ends of its links to: what comes is received first; then something is said at most, and in a
 -- tick each end of the node ticks, and a client opens.
 use Rattle.simulator_recovery.proofs.Words.Basics.{◌≡◌, ℕ, zero, suc, ◌+◌, ◌-◌, ◌<◌, ◌≤◌, ◌==◌, nat_lt, Bool, true, false, if◌then◌else◌, List, [], ◌∷◌, ◌++◌, length, map, Option, Some, None, slice_get, refl, sym, ap, subst, ◌∙◌, arith, nat_tests}
-use Rattle.simulator_recovery.proofs.Words.Links.{IsBehindTick, clock_calls, Each, Call, reading_of, is_same, CallsOn, LinksEvent, LosesAny, PassesFor, RestartsOn, calls_of, Role, Reason, reading}
+use Rattle.simulator_recovery.proofs.Words.Links.{IsBehindTick, clock_calls, Each, Call, reading_of, is_same, CallsOn, LinksEvent, calls_of, Role, reading}
 use Rattle.simulator_recovery.proofs.Words.Controllers.{as_call, Behaviour, HostState, host_step, Input as HostInput, Sense, signal_behaviour, point_behaviour, detection_behaviour, Section}
-use Rattle.simulator_recovery.proofs.Words.Interlockings.{IxlState, addressed, as_found, Command, Detector as DetectorOf, Node as Client, Point as PointOf, Signal as SignalOf, begun_with, empty_outbox, Table}
+use Rattle.simulator_recovery.proofs.Words.Interlockings.{IxlState, addressed, all_clocked, Command, Detector as DetectorOf, Node as Client, Point as PointOf, Signal as SignalOf, begun_with, empty_outbox, Table}
 use Rattle.simulator_recovery.proofs.Words.Stations.{Site, step_of, coming, Detector, Node, controller_at, detector_link, key_of, links, point_link, ClockedControllerState, WorldState, link_at, node_call, contact_events, detector_events, host_events, interlocking_events, point_events, signal_events, IsWhole}
 use Rattle.simulator_spec.specs.rasta_core.Ends as calls
 use Rattle.simulator_spec.specs.object_host.Host as hosts
@@ -13,7 +13,7 @@ use Rattle.simulator_spec.specs.Nodes.{Point, Signal}
 use Rattle.simulator_recovery.proofs.Lemmas.Ground.EndCalls.{SaysOn, all_called_at, all_say, called_both, at_place}
 use Rattle.simulator_recovery.proofs.Lemmas.Ground.HostCalls as of_hosts
 use Rattle.simulator_recovery.proofs.Lemmas.Ground.HostCalls.{datagram_calls, sense_calls, tick_calls}
-use Rattle.simulator_recovery.proofs.Lemmas.Ground.Steps.{IsFirstAt, IsSaidAt, IsThere, all_ticks, command_says, datagram_hears, tick_of, tick_ticks, ticks_of}
+use Rattle.simulator_recovery.proofs.Lemmas.Ground.Steps.{IsSaidAt, IsThere, all_ticks, command_says, datagram_hears, tick_of, tick_ticks, ticks_of}
 use Rattle.simulator_recovery.proofs.Lemmas.Ground.DueTests.{is_less, is_not, same_true}
 
 abbrev no_calls : List Call
@@ -32,34 +32,10 @@ server_says connection link (hosts.Closes why ∷ others) each = (tt, server_say
 server_says connection link (hosts.Sends item ∷ others) each = (tt, server_says connection link others each.1)
 server_says connection link (hosts.Receives bytes ∷ others) each = absurd each.0
 
--- an end is closed for not being caught up any more
-abbrev pub IsFirstOn : LinksEvent → Type 0
-IsFirstOn (CallsOn at who (calls.Closes why)) = why ≡ Reason.User
-IsFirstOn _ = ⊥
-
-pub first_says : (events : List LinksEvent) → Each IsFirstOn events → Each SaysOn events
-first_says [] each = tt
-first_says (CallsOn at who (calls.Closes why) ∷ others) each = (tt, first_says others each.1)
-first_says (CallsOn at who calls.Ticks ∷ others) each = absurd each.0
-first_says (CallsOn at who calls.Opens ∷ others) each = absurd each.0
-first_says (CallsOn at who (calls.Sends item) ∷ others) each = absurd each.0
-first_says (CallsOn at who (calls.Receives bytes connection) ∷ others) each = absurd each.0
-first_says (PassesFor elapsed of_clients of_servers ∷ others) each = absurd each.0
-first_says (LosesAny bytes ∷ others) each = absurd each.0
-first_says (RestartsOn at who clock first ∷ others) each = absurd each.0
-
-server_first : (connection link : ℕ) (made : List hosts.LinkCall) → Each of_hosts.IsFirst made → Each IsFirstOn (at_server connection link made)
-server_first connection link [] each = tt
-server_first connection link (hosts.Ticks ∷ others) each = absurd each.0
-server_first connection link (hosts.Closes why ∷ others) each = (each.0, server_first connection link others each.1)
-server_first connection link (hosts.Sends item ∷ others) each = absurd each.0
-server_first connection link (hosts.Receives bytes ∷ others) each = absurd each.0
-
 -- what a step of a host makes of its input
 abbrev pub IsStepFor : HostInput → List hosts.LinkCall → Type 0
 IsStepFor HostInput.Tick made = (front : List hosts.LinkCall) × (Each of_hosts.IsSaid front × (made ≡ front ++ hosts.Ticks ∷ []))
-IsStepFor (HostInput.Datagram bytes) made =
-    (first : List hosts.LinkCall) × (others : List hosts.LinkCall) × (Each of_hosts.IsFirst first × (Each of_hosts.IsSaid others × (made ≡ first ++ hosts.Receives bytes.now ∷ others)))
+IsStepFor (HostInput.Datagram bytes) made = (others : List hosts.LinkCall) × (Each of_hosts.IsSaid others × (made ≡ hosts.Receives bytes.now ∷ others))
 IsStepFor (HostInput.Sense contact) made = Each of_hosts.IsSaid made
 
 step_for : {Object : Type 0} (does : Behaviour Object) (now : ℕ) (input : HostInput) (host : HostState Object) → IsStepFor input (host_step does now input host).calls
@@ -149,14 +125,6 @@ module _ (site : Site) (connection : ℕ) where
   client_says ((node, clients.Sends item) ∷ others) each = (tt, client_says others each.1)
   client_says ((node, clients.Receives bytes) ∷ others) each = absurd each.0
 
-  client_first : (made : List (Client × clients.LinkCall)) → Each IsFirstAt made → Each IsFirstOn (at_client site connection made)
-  client_first [] each = tt
-  client_first ((node, clients.Opens) ∷ others) each = absurd each.0
-  client_first ((node, clients.Ticks) ∷ others) each = absurd each.0
-  client_first ((node, clients.Closes why) ∷ others) each = (each.0, client_first others each.1)
-  client_first ((node, clients.Sends item) ∷ others) each = absurd each.0
-  client_first ((node, clients.Receives bytes) ∷ others) each = absurd each.0
-
   -- no call of it is at a server
   pub client_alone : (link : ℕ) (made : List (Client × clients.LinkCall)) → all_called_at Role.Server link (at_client site connection made) ≡ []
   client_alone link [] = refl
@@ -173,38 +141,27 @@ module _ (site : Site) (connection : ℕ) where
   client_both [] other = refl
   client_both (first ∷ one) other = ap (λ (rest : List LinksEvent). at_client site connection (first ∷ []) ++ rest) (client_both one other)
 
--- What comes to an end: it receives these bytes, behind closes of ends that aren't caught up at most, and then something is said at most.
+-- What comes to an end: it receives these bytes first, and then something is said at most.
 pub record ComesTo (at : ℕ) (who : Role) (bytes : List ℕ) (events : List LinksEvent) : Type 0 where
   pub connection : ℕ
-  pub first : List LinksEvent
   pub more : List LinksEvent
-  pub are : events ≡ first ++ CallsOn at who (calls.Receives bytes connection) ∷ more
-  pub closes : Each IsFirstOn first
+  pub are : events ≡ CallsOn at who (calls.Receives bytes connection) ∷ more
   pub says : Each SaysOn more
 
-pub client_comes : (site : Site) (connection at : ℕ) (bytes : List ℕ) (node : Client) (made first more : List (Client × clients.LinkCall)) → link_at site node ≡ at → Each IsFirstAt first → Each IsSaidAt more
-    → made ≡ first ++ (node, clients.Receives bytes) ∷ more → ComesTo at Role.Client bytes (at_client site connection made)
-client_comes site connection at bytes node made first more is closes each are = record {
+pub client_comes : (site : Site) (connection at : ℕ) (bytes : List ℕ) (node : Client) (made more : List (Client × clients.LinkCall)) → link_at site node ≡ at → Each IsSaidAt more → made ≡ (node, clients.Receives bytes) ∷ more
+    → ComesTo at Role.Client bytes (at_client site connection made)
+client_comes site connection at bytes node made more is each are = record {
   connection = connection;
-  first = at_client site connection first;
   more = at_client site connection more;
-  are = ap (at_client site connection) are ∙ client_both site connection first ((node, clients.Receives bytes) ∷ more)
-      ∙ ap (λ (n : ℕ). at_client site connection first ++ CallsOn n Role.Client (calls.Receives bytes connection) ∷ at_client site connection more) is;
-  closes = client_first site connection first closes;
+  are = ap (at_client site connection) are ∙ ap (λ (n : ℕ). CallsOn n Role.Client (calls.Receives bytes connection) ∷ at_client site connection more) is;
   says = client_says site connection more each;
 }
 
-server_all : (connection at : ℕ) (one other : List hosts.LinkCall) → at_server connection at (one ++ other) ≡ at_server connection at one ++ at_server connection at other
-server_all connection at [] other = refl
-server_all connection at (first ∷ one) other = ap (λ (rest : List LinksEvent). at_server connection at (first ∷ []) ++ rest) (server_all connection at one other)
-
 pub server_comes : (bytes : List ℕ) (connection at : ℕ) (events : List LinksEvent) → StepsAt (coming bytes) connection at events → ComesTo at Role.Server bytes events
-server_comes bytes connection at events (made, ((first, others, (closes, (each, are))), same)) = record {
+server_comes bytes connection at events (made, ((others, (each, are)), same)) = record {
   connection = connection;
-  first = at_server connection at first;
   more = at_server connection at others;
-  are = same ∙ ap (at_server connection at) are ∙ server_all connection at first (hosts.Receives bytes ∷ others);
-  closes = server_first connection at first closes;
+  are = same ∙ ap (at_server connection at) are;
   says = server_says connection at others each;
 }
 
@@ -242,12 +199,16 @@ module _ (connection at : ℕ) where
   server_elsewhere who link differ (first ∷ others) =
       two_lists (ap (λ (b : Bool). if b then (if is_same Role.Server who then as_call connection first ∷ [] else []) else []) (is_other link at differ)) (server_elsewhere who link differ others)
 
+  server_both : (one other : List hosts.LinkCall) → at_server connection at (one ++ other) ≡ at_server connection at one ++ at_server connection at other
+  server_both [] other = refl
+  server_both (first ∷ one) other = ap (λ (rest : List LinksEvent). at_server connection at (first ∷ []) ++ rest) (server_both one other)
+
   pub server_ticks : (events : List LinksEvent) → StepsAt HostInput.Tick connection at events → TicksAt Role.Server at events
   server_ticks events (made, ((front, (each, are)), same)) = (
     all_called_at Role.Server at (at_server connection at front),
     (
       all_say Role.Server at (at_server connection at front) (server_says connection at front each),
-      ap (all_called_at Role.Server at) (same ∙ ap (at_server connection at) are ∙ server_all connection at front (hosts.Ticks ∷ []))
+      ap (all_called_at Role.Server at) (same ∙ ap (at_server connection at) are ∙ server_both front (hosts.Ticks ∷ []))
           ∙ called_both Role.Server at (at_server connection at front) (at_server connection at (hosts.Ticks ∷ []))
           ∙ ap (λ (b : Bool). all_called_at Role.Server at (at_server connection at front) ++ ((if b then calls.Ticks ∷ [] else []) ++ [])) (same_true at),
     ),
@@ -346,8 +307,8 @@ command_says_on site table command world =
     in client_says site 0 _ (subst (Each IsSaidAt) (sym says.are) says.each)
 
 -- a datagram of a controller
-pub interlocking_comes : (site : Site) (table : Table) (bytes : List ℕ) (connection : ℕ) (world : WorldState) (link : ℕ) (node : Client) → addressed (reading (key_of site) bytes) (as_found (reading_of world.interlocking.clock) world.interlocking.ixl) ≡ Some node
-    → link_at site node ≡ link → IsThere (reading_of world.interlocking.clock) table node (as_found (reading_of world.interlocking.clock) world.interlocking.ixl) → ComesTo link Role.Client bytes (interlocking_events site table (ixl.Datagram bytes) connection world.interlocking)
+pub interlocking_comes : (site : Site) (table : Table) (bytes : List ℕ) (connection : ℕ) (world : WorldState) (link : ℕ) (node : Client) → addressed (reading (key_of site) bytes) (all_clocked (reading_of world.interlocking.clock) world.interlocking.ixl) ≡ Some node
+    → link_at site node ≡ link → IsThere (reading_of world.interlocking.clock) table node (all_clocked (reading_of world.interlocking.clock) world.interlocking.ixl) → ComesTo link Role.Client bytes (interlocking_events site table (ixl.Datagram bytes) connection world.interlocking)
 interlocking_comes site table bytes connection world link node found is there =
     let made = datagram_hears (reading_of world.interlocking.clock) table (key_of site) (begun_with world.interlocking.ixl empty_outbox) bytes node found there
-    in client_comes site connection link bytes node _ made.0 made.1 is made.2.0 made.2.1.0 made.2.1.1
+    in client_comes site connection link bytes node _ made.0 is made.1.0 made.1.1

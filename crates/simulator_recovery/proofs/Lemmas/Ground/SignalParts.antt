@@ -2,19 +2,18 @@
 use Rattle.simulator_recovery.proofs.Words.Basics.{◌≡◌, ℕ, suc, Bool, true, false, ◌&&◌, List, length, map, Option, Some, None, slice_get, if◌then◌else◌, refl, sym, ap, subst, ◌∙◌, ◌⊎◌, inl, inr, false≢true, same_Some, ◌||◌, ◌==◌, not}
 use Rattle.simulator_recovery.proofs.Words.Links.{OutboxState, reading, Key}
 use Rattle.simulator_recovery.proofs.Words.Controllers.{Aspect, Side}
-use Rattle.simulator_recovery.proofs.Words.Interlockings.{ClientState, is_ready, begun, commanding, hearing, ticking, commanded_by, obeyed, refusal, set_anew, authorised, come_to, count, ended, ending_authority, freed, freed_by_cancel, freed_by_passage, freeing_by_cancel, freeing_by_passage, freeing_next, frees_cancelled, frees_next, is_move_due, is_proceed_due, is_proceeding, is_stop_due, is_waiting, is_withdrawn, moved, moving, moving_one, one_freed, proceeding, ruled, withdrawing, withdrawn, IxlState, KnownSignalState, RouteState, changed, Commands, Datagram, Input, Tick, addressed, all_clocked, clocked_known_signal, detector_hearing, detector_ticking, given, known_point_hearing, known_point_ticking, known_signal_hearing, known_signal_ticking, looking, looking_by, looks, node_hearing, occupied_heard, route_looks, stepped, ticked, watching, Detector, Node, Point, Signal, StepSoFar, at_route, detector_after, giving_aspect, giving_move, known_signal_after, noted, over, with_detector, with_one, with_route, Need, Row, Table, at, passes, all_clear, all_known, is_at_known_stop, is_set, is_signal_ready, place_in, was_authorised, Command, Refusal, Phase, released_at, moved_at_once, closing_behind, known_signal_closing, known_point_closing, detector_closing, noting}
+use Rattle.simulator_recovery.proofs.Words.Interlockings.{ClientState, is_ready, begun, commanding, hearing, ticking, commanded_by, obeyed, refusal, set_anew, authorised, come_to, count, ended, ending_authority, freed, freed_by_cancel, freed_by_passage, freeing_by_cancel, freeing_by_passage, freeing_next, frees_cancelled, frees_next, is_move_due, is_proceed_due, is_proceeding, is_stop_due, is_waiting, is_withdrawn, moved, moving, moving_one, one_freed, proceeding, ruled, withdrawing, withdrawn, IxlState, KnownSignalState, RouteState, changed, Commands, Datagram, Input, Tick, addressed, all_clocked, clocked_known_signal, detector_hearing, detector_ticking, given, known_point_hearing, known_point_ticking, known_signal_hearing, known_signal_ticking, looking, looking_by, looks, node_hearing, occupied_heard, route_looks, stepped, ticked, watching, Detector, Node, Point, Signal, StepSoFar, at_route, detector_after, giving_aspect, giving_move, known_signal_after, noted, over, with_detector, with_one, with_route, Need, Row, Table, at, passes, all_clear, all_known, is_at_known_stop, is_set, is_signal_ready, place_in, was_authorised, Command, Refusal, Phase, released_at, moved_at_once}
 use Rattle.simulator_recovery.proofs.Words.Stations.{RouteId}
 use Rattle.simulator_spec.specs.ixl_client.declared.command.Command.{Command as ClientCommand}
-use Rattle.simulator_recovery.proofs.Lemmas.Ground.DueShapes.{along_keeps, closing_keeps, either_keeps, found_in, moving_keeps, one_keeps, over_keeps, passage_keeps, route_holds, seen_in, seen_keeps, there_keeps, ticked_keeps, where_keeps}
+use Rattle.simulator_recovery.proofs.Lemmas.Ground.DueShapes.{along_keeps, either_keeps, moving_keeps, one_keeps, over_keeps, passage_keeps, route_holds, there_keeps, ticked_keeps, where_keeps}
 use Rattle.simulator_recovery.proofs.Lemmas.Ground.IxlSoFar.{test_of}
 use Rattle.simulator_recovery.proofs.Lemmas.Ground.DueTests.{first_true, last_true}
 use Rattle.simulator_recovery.proofs.Lemmas.Ground.MovedAtOnce.{moved_keeps}
 
 -- ---- what a part of a step does
 
--- a client goes on by a datagram or a tick, or its link is closed where it isn't caught up any more
+-- a client goes on by a datagram or a tick
 pub data GoesOn (now : ℕ) (old new : ClientState) : Type 0 where
-  closes : (outbox : OutboxState) → new ≡ (closing_behind now (begun old outbox)).client → GoesOn now old new
   hears : (bytes : List ℕ) (outbox : OutboxState) → new ≡ (hearing now bytes (begun old outbox)).client → GoesOn now old new
   ticks : (outbox : OutboxState) → new ≡ (ticking now (begun old outbox)).client → GoesOn now old new
 
@@ -178,14 +177,6 @@ module _ (now : ℕ) (table : Table) (P : StepSoFar → Type 0)
   watching_keeps number = at_keeps P table number _ (λ row route part at all. where_keeps P (is_proceeding route.phase || is_withdrawn route.phase) part _
       (λ due. quietly number _ part (λ one e. inl (refl, λ cancelled. cancelled)) all) all)
 
-  pub noting_keeps : (number : ℕ) (part : StepSoFar) → P part → P (noting now table number part)
-  unfolding noting
-  noting_keeps number = at_keeps P table number _ (λ row route part at all. where_keeps P (table.is_strict && was_authorised route.phase) part _
-      (λ due. quietly number _ part (λ one e. inl (refl, λ cancelled. cancelled)) all) all)
-
-  pub looked_keeps : (part : StepSoFar) → P part → P (seen_in now table part)
-  looked_keeps = seen_keeps P now table watching_keeps noting_keeps
-
   pub looking_keeps : (look : ℕ × Bool) (part : StepSoFar) → P part → P (looking table look part)
   unfolding looking_by
   looking_keeps look = over_keeps P (looking_by look.0 look.1 table) (λ number. at_keeps P table number _ (λ row route part at all. where_keeps P (was_authorised route.phase) part _ (λ due.
@@ -287,8 +278,8 @@ module _ (now : ℕ) (table : Table) (Obeys : Command → Type 0) (P : List Rout
       (λ ready. aspect_held now table P keep.rules row.entry Aspect.Stop (with_route number (come_to Phase.Withdrawn) part) ready (λ known items client e so. keep.withdraws number row route known items client part.ixl.routes part.ixl.known_signals at given e so all))
       (λ not_ready. keep.falls number row route part.ixl.routes part.ixl.known_signals at given not_ready all)) all)
 
-  pub looked_held : (part : StepSoFar) → Holds part → Holds (seen_in now table part)
-  looked_held = looked_keeps now table Holds (quietly now table P keep.rules)
+  pub watching_held : (number : ℕ) (part : StepSoFar) → Holds part → Holds (watching table number part)
+  watching_held = watching_keeps now table Holds (quietly now table P keep.rules)
 
   -- after the first rule, and after the second
   pub behind_withdrawal : (part : StepSoFar) → Holds (withdrawn now table part) → Holds (ruled now table part)
@@ -350,25 +341,9 @@ module _ (now : ℕ) (table : Table) (Obeys : Command → Type 0) (P : List Rout
   unfolding all_clocked
   clocked_held part all = keep.clock part.ixl.routes part.ixl.known_signals all
 
-  signal_closes : (place : ℕ) (part : StepSoFar) → Holds part → Holds (known_signal_closing now place part)
-  unfolding known_signal_closing
-  signal_closes place part all = one_keeps Holds (slice_get part.ixl.known_signals place) _ part (λ known e.
-      keep.client place known _ _ part.ixl.routes part.ixl.known_signals e (closes part.outbox refl) all) all
-
-  point_closes : (place : ℕ) (part : StepSoFar) → Holds part → Holds (known_point_closing now place part)
-  unfolding known_point_closing
-  point_closes place part all = one_keeps Holds (slice_get part.ixl.known_points place) _ part (λ known e. all) all
-
-  detector_closes : (place : ℕ) (part : StepSoFar) → Holds part → Holds (detector_closing now place part)
-  unfolding detector_closing
-  detector_closes place part all = one_keeps Holds (slice_get part.ixl.detectors place) _ part (λ known e. all) all
-
-  pub found_held : (part : StepSoFar) → Holds part → Holds (found_in now part)
-  found_held part all = closing_keeps Holds now signal_closes point_closes detector_closes _ (clocked_held part all)
-
   -- before the rules
-  pub watched_held : (key : Key) (input : Input) (part : StepSoFar) → ((command : Command) → input ≡ Commands command → Obeys command) → Holds part → Holds (seen_in now table (given now table key input (found_in now part)))
-  watched_held key input part obeys all = looked_held _ (given_held key input (found_in now part) obeys (found_held part all))
+  pub watched_held : (key : Key) (input : Input) (part : StepSoFar) → ((command : Command) → input ≡ Commands command → Obeys command) → Holds part → Holds (over (watching table) (count table) (given now table key input (record part { ixl = all_clocked now part.ixl })))
+  watched_held key input part obeys all = over_held now table P keep.rules (watching table) watching_held (count table) _ (given_held key input (record part { ixl = all_clocked now part.ixl }) obeys (clocked_held part all))
 
   pub step_held : (key : Key) (input : Input) (part : StepSoFar) → ((command : Command) → input ≡ Commands command → Obeys command) → Holds part → Holds (stepped now table key input part)
   unfolding stepped

@@ -2,11 +2,9 @@
 -- or closes links, and in a tick each of its links ticks and opens.
 use Rattle.simulator_recovery.proofs.Words.Basics.{◌≡◌, ℕ, zero, suc, ◌<◌, ◌≤◌, Bool, true, false, List, [], ◌∷◌, ◌++◌, append_assoc, append-nil, length, map, Option, Some, None, slice_get, refl, sym, ap, subst, ◌∙◌, if◌then◌else◌, arith, ◌&&◌, ◌||◌}
 use Rattle.simulator_recovery.proofs.Words.Links.{Each, reading, Key}
-use Rattle.simulator_recovery.proofs.Words.Interlockings.{LinkCall, Opens, Receives, Ticks, begun, hearing, commanded_by, moved_at_once, obeyed, refusal, count, ended, ending_authority, freed_by_cancel, freed_by_passage, freeing_by_cancel, freeing_by_passage, freeing_next, frees_cancelled, frees_next, is_move_due, is_proceed_due, is_proceeding, is_stop_due, is_withdrawn, moved, moving, moving_one, proceeding, repeated, ruled, stopped, withdrawing, withdrawn, IxlState, KnownDetectorState, KnownPointState, KnownSignalState, RouteState, changed, Commands, Datagram, Input, Tick, addressed, all_clocked, all_closing, as_found, detector_closing, detector_hearing, detector_ticking, given, known_point_closing, known_point_hearing, known_point_ticking, known_signal_closing, known_signal_hearing, known_signal_ticking, looking, looking_by, looks, node_hearing, noting, occupied_heard, stepped, ticked, watching, Detector, Node, Point, Signal, StepSoFar, along, at_route, detector_after, giving_aspect, giving_move, noted, over, with_detector, with_one, with_route, Need, Row, Table, Command, Refusal}
+use Rattle.simulator_recovery.proofs.Words.Interlockings.{LinkCall, Opens, Receives, Ticks, begun, hearing, commanded_by, moved_at_once, obeyed, refusal, count, ended, ending_authority, freed_by_cancel, freed_by_passage, freeing_by_cancel, freeing_by_passage, freeing_next, frees_cancelled, frees_next, is_move_due, is_proceed_due, is_proceeding, is_stop_due, is_withdrawn, moved, moving, moving_one, proceeding, repeated, ruled, stopped, withdrawing, withdrawn, IxlState, KnownDetectorState, KnownPointState, KnownSignalState, RouteState, changed, Commands, Datagram, Input, Tick, addressed, all_clocked, detector_hearing, detector_ticking, given, known_point_hearing, known_point_ticking, known_signal_hearing, known_signal_ticking, looking, looking_by, looks, node_hearing, occupied_heard, stepped, ticked, watching, Detector, Node, Point, Signal, StepSoFar, along, at_route, detector_after, giving_aspect, giving_move, noted, over, with_detector, with_one, with_route, Need, Row, Table, Command, Refusal}
 use Rattle.simulator_spec.specs.ixl_client.declared.command.Command.{Command as ClientCommand}
-use Rattle.simulator_recovery.proofs.Lemmas.Ground.ClientCalls.{IsFirst, IsSaid, closing_calls, commanding_calls, first_said, hearing_calls, ticking_calls}
-use Rattle.simulator_recovery.proofs.Lemmas.Ground.DueShapes.{found_in, seen_in}
-use Rattle.simulator_recovery.proofs.Lemmas.Ground.FoundIxl.{found_is}
+use Rattle.simulator_recovery.proofs.Lemmas.Ground.ClientCalls.{IsSaid, commanding_calls, hearing_calls, ticking_calls}
 use Rattle.simulator_recovery.proofs.Lemmas.Ground.EndCalls.{Grows, at_place, each_both, each_mapped, grows_by, grows_none, grows_then, map_length}
 
 -- ---- what stays
@@ -37,14 +35,6 @@ changed_length change (suc place) (first ∷ others) = ap suc (changed_length ch
 -- a client of the interlocking says something, or closes its link
 abbrev pub IsSaidAt : Node × LinkCall → Type 0
 IsSaidAt made = IsSaid made.1
-
--- a client closes its link for not being caught up any more
-abbrev pub IsFirstAt : Node × LinkCall → Type 0
-IsFirstAt made = IsFirst made.1
-
-pub first_said_at : (calls : List (Node × LinkCall)) → Each IsFirstAt calls → Each IsSaidAt calls
-first_said_at [] each = tt
-first_said_at (one ∷ others) each = ((first_said (one.1 ∷ []) (each.0, tt)).0, first_said_at others each.1)
 
 -- A part of a step in which clients say something at most.
 pub record GoesOn (old new : StepSoFar) : Type 0 where
@@ -165,14 +155,6 @@ module _ (now : ℕ) (table : Table) where
   unfolding watching
   watching_goes number = route_goes table number _ (λ row route part. where_goes (is_proceeding route.phase || is_withdrawn route.phase) part _ (with_route_goes number _ part))
 
-  noting_goes : (number : ℕ) → Goes (noting now table number)
-  unfolding noting
-  noting_goes number = route_goes table number _ (λ row route part. where_goes _ part _ (with_route_goes number _ part))
-
-  seen_goes : Goes (seen_in now table)
-  seen_goes part = goes_then part (over (watching table) (count table) part) (seen_in now table part)
-      (over_goes (watching table) watching_goes (count table) part) (over_goes (noting now table) noting_goes (count table) (over (watching table) (count table) part))
-
   ruled_goes : Goes (ruled now table)
   ruled_goes part =
       goes_then part (moved now table part) (ruled now table part)
@@ -225,72 +207,6 @@ module _ (now : ℕ) (table : Table) where
     points = map_length _ part.ixl.known_points;
     detectors = map_length _ part.ixl.detectors;
   }
-
-  -- ---- what the input finds
-
-  -- links are closed that aren't caught up any more
-  pub record GoesFirst (old new : StepSoFar) : Type 0 where
-    pub stays : Stays old new
-    pub closes : Grows IsFirstAt old.calls new.calls
-
-  first : (part : StepSoFar) → GoesFirst part part
-  first part = record { stays = stays part; closes = grows_none IsFirstAt part.calls }
-
-  first_then : (one two three : StepSoFar) → GoesFirst one two → GoesFirst two three → GoesFirst one three
-  first_then one two three before behind = record {
-    stays = stays_then one two three before.stays behind.stays;
-    closes = grows_then IsFirstAt one.calls two.calls three.calls before.closes behind.closes;
-  }
-
-  one_first : {A : Type 0} (old : StepSoFar) (found : Option A) (does : A → StepSoFar → StepSoFar) (part : StepSoFar) → ((one : A) → GoesFirst old (does one part)) → GoesFirst old part → GoesFirst old (with_one found does part)
-  one_first old None does part each none = none
-  one_first old (Some one) does part each none = each one
-
-  over_first : (does : ℕ → StepSoFar → StepSoFar) → ((number : ℕ) (part : StepSoFar) → GoesFirst part (does number part)) → (n : ℕ) (part : StepSoFar) → GoesFirst part (over does n part)
-  over_first does each zero part = first part
-  over_first does each (suc n) part = first_then part (over does n part) (does n (over does n part)) (over_first does each n part) (each n (over does n part))
-
-  closed_by : (node : Node) (calls : List LinkCall) (before : List (Node × LinkCall)) → Each IsFirst calls → Grows IsFirstAt before (before ++ map (λ call. (node, call)) calls)
-  closed_by node calls before each = grows_by IsFirstAt before (map (λ call. (node, call)) calls) (each_mapped IsFirstAt (λ (call : LinkCall). (node, call)) calls each)
-
-  signal_first : (place : ℕ) (part : StepSoFar) → GoesFirst part (known_signal_closing now place part)
-  unfolding known_signal_closing
-  signal_first place part = one_first part (slice_get part.ixl.known_signals place) _ part (λ known. record {
-    stays = record { created = refl; signals = changed_length _ place part.ixl.known_signals; points = refl; detectors = refl };
-    closes = closed_by (Signal place) _ part.calls (closing_calls now known.client part.outbox);
-  }) (first part)
-
-  point_first : (place : ℕ) (part : StepSoFar) → GoesFirst part (known_point_closing now place part)
-  unfolding known_point_closing
-  point_first place part = one_first part (slice_get part.ixl.known_points place) _ part (λ known. record {
-    stays = record { created = refl; signals = refl; points = changed_length _ place part.ixl.known_points; detectors = refl };
-    closes = closed_by (Point place) _ part.calls (closing_calls now known.client part.outbox);
-  }) (first part)
-
-  detector_first : (place : ℕ) (part : StepSoFar) → GoesFirst part (detector_closing now place part)
-  unfolding detector_closing
-  detector_first place part = one_first part (slice_get part.ixl.detectors place) _ part (λ known. record {
-    stays = record { created = refl; signals = refl; points = refl; detectors = changed_length _ place part.ixl.detectors };
-    closes = closed_by (Detector place) _ part.calls (closing_calls now known.client part.outbox);
-  }) (first part)
-
-  closing_first : (part : StepSoFar) → GoesFirst part (all_closing now part)
-  unfolding all_closing
-  closing_first part = first_then part points (all_closing now part) (first_then part signals points
-      (over_first (known_signal_closing now) signal_first (length part.ixl.known_signals) part) (over_first (known_point_closing now) point_first (length part.ixl.known_points) signals))
-      (over_first (detector_closing now) detector_first (length part.ixl.detectors) points)
-    where
-      signals : StepSoFar
-      signals = over (known_signal_closing now) (length part.ixl.known_signals) part
-
-      points : StepSoFar
-      points = over (known_point_closing now) (length part.ixl.known_points) signals
-
-  pub found_first : (part : StepSoFar) → GoesFirst part (found_in now part)
-  found_first part =
-      let clocked = clocked_stays part
-      in let closed = closing_first (record part { ixl = all_clocked now part.ixl })
-      in record { stays = stays_then part (record part { ixl = all_clocked now part.ixl }) (found_in now part) clocked closed.stays; closes = closed.closes }
 
   hearing_stays : (bytes : List ℕ) (node : Node) (part : StepSoFar) → Stays part (node_hearing now table bytes node part)
   unfolding node_hearing known_signal_hearing known_point_hearing detector_hearing
@@ -484,23 +400,19 @@ module _ (now : ℕ) (table : Table) where
   -- ---- the step
 
   module _ (key : Key) (part : StepSoFar) where
-    abbrev found_so : StepSoFar
-    found_so = found_in now part
+    abbrev clocked : StepSoFar
+    clocked = record part { ixl = all_clocked now part.ixl }
 
     abbrev seen_so : Input → StepSoFar
-    seen_so input = seen_in now table (given now table key input found_so)
+    seen_so input = over (watching table) (count table) (given now table key input clocked)
 
-    ruled_so : (input : Input) → GoesOn (given now table key input found_so) (ruled now table (seen_so input))
-    ruled_so input = goes_then (given now table key input found_so) (seen_so input) (ruled now table (seen_so input))
-        (seen_goes (given now table key input found_so)) (ruled_goes (seen_so input))
+    ruled_so : (input : Input) → GoesOn (given now table key input clocked) (ruled now table (seen_so input))
+    ruled_so input = goes_then (given now table key input clocked) (seen_so input) (ruled now table (seen_so input))
+        (over_goes (watching table) watching_goes (count table) (given now table key input clocked)) (ruled_goes (seen_so input))
 
     before_ticks : (input : Input) → Stays part (ruled now table (seen_so input))
-    before_ticks input = stays_then part (given now table key input found_so) (ruled now table (seen_so input))
-        (stays_then part found_so (given now table key input found_so) (found_first part).stays (given_stays key input found_so)) (ruled_so input).stays
-
-    -- what is said before the input
-    said_first : Grows IsSaidAt part.calls found_so.calls
-    said_first = let closes = (found_first part).closes in record { more = closes.more; are = closes.are; each = first_said_at closes.more closes.each }
+    before_ticks input = stays_then part (given now table key input clocked) (ruled now table (seen_so input))
+        (stays_then part clocked (given now table key input clocked) (clocked_stays part) (given_stays key input clocked)) (ruled_so input).stays
 
     pub step_stays : (input : Input) → Stays part (stepped now table key input part)
     unfolding stepped
@@ -509,25 +421,21 @@ module _ (now : ℕ) (table : Table) where
     -- a command: something is said at most
     pub command_says : (command : Command) → Grows IsSaidAt part.calls (stepped now table key (Commands command) part).calls
     unfolding stepped given ticked
-    command_says command = grows_then IsSaidAt part.calls found_so.calls _ said_first (grows_then IsSaidAt found_so.calls _ _ (command_goes command found_so).says (ruled_so (Commands command)).says)
+    command_says command = grows_then IsSaidAt part.calls _ _ (command_goes command clocked).says (ruled_so (Commands command)).says
 
-    -- a datagram: the client that it is for receives it, and links are closed at most before
-    pub datagram_hears : (bytes : List ℕ) (node : Node) → addressed (reading key bytes) (as_found now part.ixl) ≡ Some node → IsThere node (as_found now part.ixl)
-        → (first : List (Node × LinkCall)) × (more : List (Node × LinkCall)) × (Each IsFirstAt first × (Each IsSaidAt more × ((stepped now table key (Datagram bytes) part).calls ≡ (part.calls ++ first) ++ (node, Receives bytes) ∷ more)))
+    -- a datagram: the client that it is for receives it first
+    pub datagram_hears : (bytes : List ℕ) (node : Node) → addressed (reading key bytes) (all_clocked now part.ixl) ≡ Some node → IsThere node (all_clocked now part.ixl)
+        → (more : List (Node × LinkCall)) × (Each IsSaidAt more × ((stepped now table key (Datagram bytes) part).calls ≡ part.calls ++ (node, Receives bytes) ∷ more))
     unfolding stepped given ticked
     datagram_hears bytes node is there =
-        let same = found_is now part
-        in let heard = subst (λ (found : Option Node). Hears node bytes found_so (with_one found (node_hearing now table bytes) found_so)) (sym (ap (addressed (reading key bytes)) same ∙ is))
-        (node_hears bytes node found_so (subst (IsThere node) (sym same) there))
-        in let all = hears_then node bytes found_so (given now table key (Datagram bytes) found_so) (ruled now table (seen_so (Datagram bytes))) heard (ruled_so (Datagram bytes))
-        in let closes = (found_first part).closes
-        in (closes.more, all.more, (closes.each, (all.each, all.calls ∙ ap (λ (calls : List (Node × LinkCall)). calls ++ (node, Receives bytes) ∷ all.more) closes.are)))
+        let heard = subst (λ (found : Option Node). Hears node bytes clocked (with_one found (node_hearing now table bytes) clocked)) (sym is) (node_hears bytes node clocked there)
+        in let all = hears_then node bytes clocked (given now table key (Datagram bytes) clocked) (ruled now table (seen_so (Datagram bytes))) heard (ruled_so (Datagram bytes))
+        in (all.more, (all.each, all.calls))
 
     -- a datagram that comes to no client: something is said at most
-    pub others_say : (bytes : List ℕ) → given now table key (Datagram bytes) found_so ≡ found_so → Grows IsSaidAt part.calls (stepped now table key (Datagram bytes) part).calls
+    pub others_say : (bytes : List ℕ) → given now table key (Datagram bytes) clocked ≡ clocked → Grows IsSaidAt part.calls (stepped now table key (Datagram bytes) part).calls
     unfolding stepped ticked
-    others_say bytes none = grows_then IsSaidAt part.calls found_so.calls _ said_first
-        (grows_then IsSaidAt found_so.calls _ _ (subst (λ (heard : StepSoFar). Grows IsSaidAt found_so.calls heard.calls) (sym none) (grows_none IsSaidAt found_so.calls)) (ruled_so (Datagram bytes)).says)
+    others_say bytes none = grows_then IsSaidAt part.calls _ _ (subst (λ (heard : StepSoFar). Grows IsSaidAt part.calls heard.calls) (sym none) (grows_none IsSaidAt part.calls)) (ruled_so (Datagram bytes)).says
 
     -- a tick: something is said at most, and then all links tick and open
     pub tick_ticks : (front : List (Node × LinkCall)) × (Each IsSaidAt front × ((stepped now table key Tick part).calls ≡ (part.calls ++ front) ++ all_ticks part.ixl))
@@ -535,7 +443,7 @@ module _ (now : ℕ) (table : Table) where
     tick_ticks =
         let before = before_ticks Tick
         in let ruled_now = ruled now table (seen_so Tick)
-        in let says = grows_then IsSaidAt part.calls found_so.calls ruled_now.calls said_first (ruled_so Tick).says
+        in let says = (ruled_so Tick).says
         in (says.more, (says.each, (ticked_ticks ruled_now).calls_are ∙ two (all_same part.ixl ruled_now.ixl before.signals before.points before.detectors) says.are))
       where
         two : {a b c d : List (Node × LinkCall)} → a ≡ b → c ≡ d → c ++ a ≡ d ++ b

@@ -2,7 +2,7 @@
 use Rattle.simulator_recovery.proofs.Words.Basics.{◌≡◌, ◌≢◌, ◌⊎◌, inl, inr, ℕ, zero, suc, ◌<◌, ◌==◌, ◌&&◌, Bool, true, false, if◌then◌else◌, List, [], ◌∷◌, Option, Some, None, slice_get, refl, sym, ap, subst, ◌∙◌, arith, ◌||◌, not, false≢true, nat_tests, none-some, same_Some}
 use Rattle.simulator_recovery.proofs.Words.Links.{reading_of}
 use Rattle.simulator_recovery.proofs.Words.Controllers.{Aspect}
-use Rattle.simulator_recovery.proofs.Words.Interlockings.{cancel_refusal, commanded_by, moved_at_once, obeyed, refusal, refused_where, come_to, count, is_proceeding, is_stop_due, is_waiting, stopped, withdrawing, IxlState, KnownSignalState, RouteState, changed, Commands, answer_by, given, reply, stepped, ticked, StepSoFar, at_route, begun_with, empty_outbox, giving_aspect, over, with_one, with_route, Row, Table, is_holding, is_set, is_signal_ready, Command, Refusal, Phase, as_found}
+use Rattle.simulator_recovery.proofs.Words.Interlockings.{cancel_refusal, commanded_by, moved_at_once, obeyed, refusal, refused_where, come_to, count, is_proceeding, is_stop_due, is_waiting, stopped, withdrawing, IxlState, KnownSignalState, RouteState, changed, Commands, all_clocked, answer_by, given, reply, stepped, ticked, watching, StepSoFar, at_route, begun_with, empty_outbox, giving_aspect, over, with_one, with_route, Row, Table, is_holding, is_set, is_signal_ready, Command, Refusal, Phase}
 use Rattle.simulator_recovery.proofs.Words.Stations.{Site, RouteId, Event, Answer, answered, answered_by, happens, interlocking_stepped, key_of, WorldState, IsReached}
 use Rattle.simulator_recovery.proofs.Words.Recovery.{NoneProceeds}
 use Rattle.simulator_recovery.proofs.Lemmas.Lamps.ConfirmedStops.{alone}
@@ -10,9 +10,7 @@ use Rattle.simulator_recovery.proofs.Lemmas.Lamps.GivenNoMore.{over_rests}
 use Rattle.simulator_recovery.proofs.Lemmas.Ground.IxlClients.{changed_at}
 use Rattle.simulator_recovery.proofs.Lemmas.Silence.Spent.{within_some}
 use Rattle.simulator_recovery.proofs.Lemmas.Lamps.StopsGiven.{differs, is_equal, proceeding_set, waiting_set, where_none, where_not}
-use Rattle.simulator_recovery.proofs.Lemmas.Ground.SignalParts.{AtRoute, IsQuiet, PartsKeep, behind_withdrawal, over_held, step_held, withdrawing_held, looked_held}
-use Rattle.simulator_recovery.proofs.Lemmas.Ground.DueShapes.{found_in, seen_in}
-use Rattle.simulator_recovery.proofs.Lemmas.Ground.FoundIxl.{found_is}
+use Rattle.simulator_recovery.proofs.Lemmas.Ground.SignalParts.{AtRoute, IsQuiet, PartsKeep, behind_withdrawal, over_held, step_held, watching_held, withdrawing_held}
 
 -- no command comes after this one
 abbrev pub NoCommand : Command → Type 0
@@ -174,7 +172,7 @@ falls_behind_rule now table number row (suc many) part there few of = decide (ma
 -- ---- the step
 
 cancel_stepped : (site : Site) (table : Table) (world : WorldState) (route : RouteId) (row : Row) → slice_get table.rows route.0 ≡ Some row
-    → refusal (reading_of world.interlocking.clock) table (Command.Cancel route) (as_found (reading_of world.interlocking.clock) world.interlocking.ixl) ≡ None
+    → refusal (reading_of world.interlocking.clock) table (Command.Cancel route) (all_clocked (reading_of world.interlocking.clock) world.interlocking.ixl) ≡ None
     → OfRoute route.0 HasFallen (interlocking_stepped site table (Commands (Command.Cancel route)) world).interlocking.ixl.routes []
 unfolding interlocking_stepped stepped ticked given moved_at_once
 cancel_stepped site table world route row there none =
@@ -184,29 +182,27 @@ cancel_stepped site table world route row there none =
     now : ℕ
     now = reading_of world.interlocking.clock
 
-    begins : StepSoFar
-    begins = begun_with world.interlocking.ixl empty_outbox
-
-    finds : StepSoFar
-    finds = found_in now begins
+    clocked : StepSoFar
+    clocked = record (begun_with world.interlocking.ixl empty_outbox) { ixl = all_clocked now world.interlocking.ixl }
 
     heard_by : Option Refusal → StepSoFar
-    heard_by cause = moved_at_once now cause (Command.Cancel route) (record finds { ixl = commanded_by now cause (Command.Cancel route) finds.ixl })
+    heard_by cause = moved_at_once now cause (Command.Cancel route) (record clocked { ixl = commanded_by now cause (Command.Cancel route) clocked.ixl })
 
     heard : StepSoFar
-    heard = heard_by (refusal now table (Command.Cancel route) finds.ixl)
+    heard = heard_by (refusal now table (Command.Cancel route) clocked.ixl)
 
     watched : StepSoFar
-    watched = seen_in now table heard
+    watched = over (watching table) (count table) heard
 
     obeyed_of : OfRoute route.0 IsCancelled (heard_by None).ixl.routes []
-    obeyed_of = cancelled_there now finds.ixl route
+    obeyed_of = cancelled_there now clocked.ixl route
 
     heard_of : OfRoute route.0 IsCancelled heard.ixl.routes []
-    heard_of = subst (λ (cause : Option Refusal). OfRoute route.0 IsCancelled (heard_by cause).ixl.routes []) (sym (ap (refusal now table (Command.Cancel route)) (found_is now begins) ∙ none)) obeyed_of
+    heard_of = subst (λ (cause : Option Refusal). OfRoute route.0 IsCancelled (heard_by cause).ixl.routes []) (sym none) obeyed_of
 
     watched_of : OfRoute route.0 IsCancelled watched.ixl.routes watched.ixl.known_signals
-    watched_of = looked_held now table NoCommand (OfRoute route.0 IsCancelled) (route_keep now table NoCommand none_comes route.0 IsCancelled cancelled_keeps) heard heard_of
+    watched_of = over_held now table (OfRoute route.0 IsCancelled) (route_keep now table NoCommand none_comes route.0 IsCancelled cancelled_keeps).rules (watching table)
+        (watching_held now table NoCommand (OfRoute route.0 IsCancelled) (route_keep now table NoCommand none_comes route.0 IsCancelled cancelled_keeps)) (count table) heard heard_of
 
 -- ---- other routes
 
@@ -269,14 +265,14 @@ refusal_is : (now : ℕ) (table : Table) (route : RouteId) (ixl : IxlState) → 
 unfolding refusal
 refusal_is now table route ixl = refl
 
-pub as_found_routes : (now : ℕ) (ixl : IxlState) → (as_found now ixl).routes ≡ ixl.routes
-unfolding as_found
-as_found_routes now ixl = refl
+pub clocked_routes : (now : ℕ) (ixl : IxlState) → (all_clocked now ixl).routes ≡ ixl.routes
+unfolding all_clocked
+clocked_routes now ixl = refl
 
 pub accepted_so : (site : Site) (table : Table) (world : WorldState) (route : RouteId) → answered site table (Event.Request (Command.Cancel route)) world ≡ Answer.Accepted
-    → refusal (reading_of world.interlocking.clock) table (Command.Cancel route) (as_found (reading_of world.interlocking.clock) world.interlocking.ixl) ≡ None
+    → refusal (reading_of world.interlocking.clock) table (Command.Cancel route) (all_clocked (reading_of world.interlocking.clock) world.interlocking.ixl) ≡ None
 unfolding answered reply
-accepted_so site table world route accepted = not_refused (refusal (reading_of world.interlocking.clock) table (Command.Cancel route) (as_found (reading_of world.interlocking.clock) world.interlocking.ixl)) accepted
+accepted_so site table world route accepted = not_refused (refusal (reading_of world.interlocking.clock) table (Command.Cancel route) (all_clocked (reading_of world.interlocking.clock) world.interlocking.ixl)) accepted
 
 pub cancel_leaves_none : (site : Site) (table : Table) (world : WorldState) (route : RouteId) (row : Row) → IsReached site table world → slice_get table.rows route.0 ≡ Some row
     → answered site table (Event.Request (Command.Cancel route)) world ≡ Answer.Accepted → NoneProceeds table (happens site table (Event.Request (Command.Cancel route)) world).interlocking.ixl row.entry
@@ -286,14 +282,14 @@ cancel_leaves_none site table world route row reached there accepted k other one
     now : ℕ
     now = reading_of world.interlocking.clock
 
-    none : refusal now table (Command.Cancel route) (as_found now world.interlocking.ixl) ≡ None
+    none : refusal now table (Command.Cancel route) (all_clocked now world.interlocking.ixl) ≡ None
     none = accepted_so site table world route accepted
 
-    set : (was : RouteState) × (slice_get (as_found now world.interlocking.ixl).routes route.0 ≡ Some was) × (is_set was.phase ≡ true)
-    set = was_set now (as_found now world.interlocking.ixl) (slice_get (as_found now world.interlocking.ixl).routes route.0) (sym (refusal_is now table route (as_found now world.interlocking.ixl)) ∙ none)
+    set : (was : RouteState) × (slice_get (all_clocked now world.interlocking.ixl).routes route.0 ≡ Some was) × (is_set was.phase ≡ true)
+    set = was_set now (all_clocked now world.interlocking.ixl) (slice_get (all_clocked now world.interlocking.ixl).routes route.0) (sym (refusal_is now table route (all_clocked now world.interlocking.ixl)) ∙ none)
 
     set_there : slice_get world.interlocking.ixl.routes route.0 ≡ Some set.0
-    set_there = ap (λ (routes : List RouteState). slice_get routes route.0) (sym (as_found_routes now world.interlocking.ixl)) ∙ set.1
+    set_there = ap (λ (routes : List RouteState). slice_get routes route.0) (sym (clocked_routes now world.interlocking.ixl)) ∙ set.1
 
     -- another route from the signal wasn't set before
     unset : k ≢ route.0 → OfRoute k IsUnset world.interlocking.ixl.routes []

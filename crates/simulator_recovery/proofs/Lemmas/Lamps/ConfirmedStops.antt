@@ -1,7 +1,7 @@
 -- Where the interlocking's link to a signal holds for confirmed what was given, the authority of a withdrawn route has ended.
 use Rattle.simulator_recovery.proofs.Words.Basics.{◌≡◌, ℕ, true, false, inl, refl, slice_get, sym, ap, ◌∙◌, false≢true, same_Some, ◌≢◌, ◌⊎◌, inr, zero, suc, ◌<◌, ◌==◌, ◌&&◌, Bool, if◌then◌else◌, List, Option, Some, None, subst, arith, nat_tests, none-some, ◌-◌, nat_le, ◌≤◌, length}
 use Rattle.simulator_recovery.proofs.Words.Links.{reading_of, opening, ticking as link_ticking, quiet_until, beginning, may_open, requesting, OutboxState, Step, beating, entered, sending, silent, Heartbeat, LinkState, confirmed_items, is_up, settled}
-use Rattle.simulator_recovery.proofs.Words.Interlockings.{IsRouteOf, is_proceeding, is_waiting, is_set, Phase, KnownSignalState, RouteState, Input, begun_with, empty_outbox, Row, Table, ClientState, is_outside, is_ready, begun, calling, fallen, ticking, Stage, come_to, count, ended, ending_authority, is_withdrawn, withdrawn, changed, stepped, StepSoFar, at_route, known_signal_after, over, with_one, with_route, at, has_taken_stop, is_at_known_stop, is_known_signal_at_stop, Phase as RoutePhase, IsTableOf, watched}
+use Rattle.simulator_recovery.proofs.Words.Interlockings.{IsRouteOf, is_proceeding, is_waiting, is_set, Phase, KnownSignalState, RouteState, Input, begun_with, empty_outbox, Row, Table, ClientState, is_outside, is_ready, begun, calling, fallen, ticking, Stage, come_to, count, ended, ending_authority, is_withdrawn, withdrawn, changed, stepped, StepSoFar, at_route, known_signal_after, over, with_one, with_route, at, has_taken_stop, is_at_known_stop, is_known_signal_at_stop, Phase as RoutePhase, IsTableOf}
 use Rattle.simulator_recovery.proofs.Words.Stations.{Site, Beginning, new_ixl, new_known_signal_of, new_route_of, interlocking_stepped, key_of, WorldState, IsReached, Once, IsStation, ServerEnd, links}
 use Rattle.simulator_recovery.proofs.Words.Recovery.{HasStopLast, IsWithdrawnFrom, NoneProceeds, IsStopTaken, HasConfirmed, GivesNoMore, IsGivenNoMore, IsStopLast, LawsBelow}
 use Rattle.simulator_recovery.proofs.Words.Controllers.{Aspect}
@@ -113,7 +113,7 @@ client_ticks now client outbox up = choose (is_up k.phase) refl up
     late : ClientState
     late = record client { link = k }
 
-    choose : (b : Bool) → is_up k.phase ≡ b → is_up (if b then late else record late { stage = Stage.Outside }).link.phase ≡ true → TicksUp now client (watched now (if b then late else record late { stage = Stage.Outside }))
+    choose : (b : Bool) → is_up k.phase ≡ b → is_up (if b then late else record late { stage = Stage.Outside }).link.phase ≡ true → TicksUp now client (if b then late else record late { stage = Stage.Outside })
     choose true e f = let opened = opens_up now (link_ticking now client.link).link e in let ticked = ticks_up now client.link opened.0 in record { up = ticked.0; confirmed = opened.1 ∙ ticked.1; same = refl }
     choose false e f = absurd (false≢true (sym e ∙ f))
 

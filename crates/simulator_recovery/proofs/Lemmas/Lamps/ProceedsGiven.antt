@@ -2,20 +2,19 @@
 use Rattle.simulator_recovery.proofs.Words.Basics.{◌≡◌, ◌≢◌, ◌⊎◌, inl, inr, ℕ, zero, suc, ◌<◌, ◌==◌, ◌&&◌, Bool, true, false, not, if◌then◌else◌, List, map, Option, Some, None, slice_get, refl, sym, ap, subst, ◌∙◌, arith, ◌||◌, false≢true, nat_tests, none-some, same_Some}
 use Rattle.simulator_recovery.proofs.Words.Links.{OutboxState, reading, Key}
 use Rattle.simulator_recovery.proofs.Words.Controllers.{Aspect, Side}
-use Rattle.simulator_recovery.proofs.Words.Interlockings.{ClientState, is_outside, is_ready, begun, clocked, hearing, ticking, commanded_by, obeyed, refusal, set_anew, come_to, count, ending_authority, is_proceeding, is_stop_due, is_waiting, stopped, withdrawing, withdrawn, IxlState, KnownSignalState, RouteState, changed, Commands, Datagram, Input, Tick, addressed, all_clocked, clocked_known_signal, detector_hearing, given, known_point_hearing, known_signal_hearing, looking, looks, node_hearing, occupied_heard, stepped, Detector, Node, Point, Signal, StepSoFar, at_route, detector_after, giving_aspect, known_signal_after, noted, over, with_detector, with_one, with_route, Row, Table, at, all_clear, all_known, is_signal_ready, Command, Refusal, Phase, released_at, giving_move, closing_behind, known_signal_closing, known_point_closing, detector_closing}
+use Rattle.simulator_recovery.proofs.Words.Interlockings.{ClientState, is_outside, is_ready, begun, clocked, hearing, ticking, commanded_by, obeyed, refusal, set_anew, come_to, count, ending_authority, is_proceeding, is_stop_due, is_waiting, stopped, withdrawing, withdrawn, IxlState, KnownSignalState, RouteState, changed, Commands, Datagram, Input, Tick, addressed, all_clocked, clocked_known_signal, detector_hearing, given, known_point_hearing, known_signal_hearing, looking, looks, node_hearing, occupied_heard, stepped, watching, Detector, Node, Point, Signal, StepSoFar, at_route, detector_after, giving_aspect, known_signal_after, noted, over, with_detector, with_one, with_route, Row, Table, at, all_clear, all_known, is_signal_ready, Command, Refusal, Phase, released_at, giving_move}
 use Rattle.simulator_recovery.proofs.Words.Stations.{RouteId}
 use Rattle.simulator_recovery.proofs.Lemmas.Windows.SignalWindows.{had_aspect}
-use Rattle.simulator_recovery.proofs.Lemmas.Ground.DueShapes.{along_keeps, one_keeps, closing_keeps, found_in, seen_in}
+use Rattle.simulator_recovery.proofs.Lemmas.Ground.DueShapes.{along_keeps, one_keeps, over_keeps}
 use Rattle.simulator_recovery.proofs.Lemmas.Lamps.GivenNoMore.{over_rests}
 use Rattle.simulator_recovery.proofs.Lemmas.Ground.IxlClients.{changed_at, mapped_at, signal_is}
 use Rattle.simulator_recovery.proofs.Lemmas.Ground.IxlSoFar.{set_at, test_of}
 use Rattle.simulator_recovery.proofs.Lemmas.Lamps.ProceedsHearing.{IsOutside, outside_clocked, outside_hears, outside_ticks, outside_unready}
-use Rattle.simulator_recovery.proofs.Lemmas.Ground.SignalParts.{AtRoute, IsGiven, IsQuiet, RulesKeep, behind_ending, ending_held, hears, new_signal, none_passes, over_held, ticked_held, looking_keeps, closes, looked_keeps}
+use Rattle.simulator_recovery.proofs.Lemmas.Ground.SignalParts.{AtRoute, IsGiven, IsQuiet, RulesKeep, behind_ending, ending_held, hears, new_signal, none_passes, over_held, ticked_held, watching_keeps, looking_keeps}
 use Rattle.simulator_recovery.proofs.Lemmas.Silence.Spent.{within_some}
 use Rattle.simulator_recovery.proofs.Lemmas.Lamps.StopsGiven.{StopsStand, changed_here, is_equal, proceeding_set, stand_keep, waiting_set}
 use Rattle.simulator_recovery.proofs.Lemmas.Ground.DueTests.{first_true}
 use Rattle.simulator_recovery.proofs.Lemmas.Ground.MovedAtOnce.{moved_keeps}
-use Rattle.simulator_recovery.proofs.Lemmas.Ground.FoundClients.{by_part, shut_so}
 
 -- ---- what is kept
 
@@ -128,45 +127,6 @@ module _ (now : ℕ) (table : Table) where
         (stays_so was.0 row.aspect was.0.indicated (clocked now was.0.client) (outside_clocked now was.0.client) (is.given number row route was.0 there proceeds was.1));
   }
 
-  -- a link that isn't caught up any more is closed
-  closes_given : (place : ℕ) (known : KnownSignalState) (outbox : OutboxState) (routes : List RouteState) (signals : List KnownSignalState) → slice_get signals place ≡ Some known → Given_out routes signals
-      → Given_out routes (changed (λ old. known_signal_after known.aspect known.number known.indicated (closing_behind now (begun known.client outbox)).client) place signals)
-  closes_given place known outbox routes signals there is = record {
-    stand = (stand_keep now table).client place known (closing_behind now (begun known.client outbox)).client known.indicated routes signals there (closes outbox refl) is.stand;
-    given = λ number row route later route_there proceeds e. by_signal number row route later route_there proceeds (set_at place new signals row.entry later e);
-  }
-    where
-      new : KnownSignalState
-      new = known_signal_after known.aspect known.number known.indicated (closing_behind now (begun known.client outbox)).client
-
-      stays_out : IsOut known → is_outside (closing_behind now (begun known.client outbox)).client.stage ≡ true
-      stays_out out = by_part (λ (c : ClientState). is_outside c.stage ≡ true) now (begun known.client outbox) (λ behind. (shut_so now known.client).outside) (λ calm. out)
-
-      by_signal : (number : ℕ) (row : Row) (route : RouteState) (later : KnownSignalState) → AtRoute table number row route routes → is_proceeding route.phase ≡ true
-          → ((row.entry ≡ place) × (later ≡ new)) ⊎ ((row.entry ≢ place) × (slice_get signals row.entry ≡ Some later)) → (later.aspect ≡ Some row.aspect) ⊎ IsOut later
-      by_signal number row route later route_there proceeds (inl (same, so)) = subst (λ (k : KnownSignalState). (k.aspect ≡ Some row.aspect) ⊎ IsOut k) (sym so)
-          (stays_so known row.aspect known.indicated (closing_behind now (begun known.client outbox)).client stays_out (is.given number row route known route_there proceeds (ap (slice_get signals) same ∙ there)))
-      by_signal number row route later route_there proceeds (inr (differ, f)) = is.given number row route later route_there proceeds f
-
-  signal_closes : (place : ℕ) (part : StepSoFar) → Given_out part.ixl.routes part.ixl.known_signals → Given_out (known_signal_closing now place part).ixl.routes (known_signal_closing now place part).ixl.known_signals
-  unfolding known_signal_closing
-  signal_closes place part is = one_keeps (λ (q : StepSoFar). Given_out q.ixl.routes q.ixl.known_signals) (slice_get part.ixl.known_signals place) _ part
-      (λ known e. closes_given place known part.outbox part.ixl.routes part.ixl.known_signals e is) is
-
-  point_closes : (place : ℕ) (part : StepSoFar) → Given_out part.ixl.routes part.ixl.known_signals → Given_out (known_point_closing now place part).ixl.routes (known_point_closing now place part).ixl.known_signals
-  unfolding known_point_closing
-  point_closes place part is = one_keeps (λ (q : StepSoFar). Given_out q.ixl.routes q.ixl.known_signals) (slice_get part.ixl.known_points place) _ part (λ known e. is) is
-
-  detector_closes : (place : ℕ) (part : StepSoFar) → Given_out part.ixl.routes part.ixl.known_signals → Given_out (detector_closing now place part).ixl.routes (detector_closing now place part).ixl.known_signals
-  unfolding detector_closing
-  detector_closes place part is = one_keeps (λ (q : StepSoFar). Given_out q.ixl.routes q.ixl.known_signals) (slice_get part.ixl.detectors place) _ part (λ known e. is) is
-
-  -- what the input of a step finds
-  found_given : (part : StepSoFar) → Given_out part.ixl.routes part.ixl.known_signals → Given_out (found_in now part).ixl.routes (found_in now part).ixl.known_signals
-  unfolding all_clocked
-  found_given part is = closing_keeps (λ (q : StepSoFar). Given_out q.ixl.routes q.ixl.known_signals) now signal_closes point_closes detector_closes (record part { ixl = all_clocked now part.ixl })
-      (clock_given part.ixl.routes part.ixl.known_signals is)
-
   ticks_given : (place : ℕ) (known : KnownSignalState) (outbox : OutboxState) (routes : List RouteState) (signals : List KnownSignalState) → slice_get signals place ≡ Some known → Given_out routes signals
       → Given_out routes (changed (λ old. known_signal_after known.aspect known.number known.indicated (ticking now (begun known.client outbox)).client) place signals)
   ticks_given place known outbox routes signals there is = record {
@@ -272,8 +232,8 @@ module _ (now : ℕ) (table : Table) where
       → Unready part → Unready (with_route number change part)
   quietly number change part quiet is = quiet_given now table IsUnready number change part.ixl.routes part.ixl.known_signals quiet is
 
-  looked_kept : (part : StepSoFar) → Unready part → Unready (seen_in now table part)
-  looked_kept = looked_keeps now table Unready quietly
+  watching_kept : (number : ℕ) (part : StepSoFar) → Unready part → Unready (watching table number part)
+  watching_kept = watching_keeps now table Unready quietly
 
   looking_kept : (look : ℕ × Bool) (part : StepSoFar) → Unready part → Unready (looking table look part)
   looking_kept = looking_keeps now table Unready quietly
@@ -454,11 +414,12 @@ module _ (now : ℕ) (table : Table) where
 
   -- ---- a whole step
 
-  pub step_gives : (key : Key) (input : Input) (part : StepSoFar) → OutsSo now table (found_in now part).ixl.known_signals → Out now table part → Out now table (stepped now table key input part)
-  unfolding stepped
+  pub step_gives : (key : Key) (input : Input) (part : StepSoFar) → OutsSo now table (map (clocked_known_signal now) part.ixl.known_signals) → Out now table part → Out now table (stepped now table key input part)
+  unfolding stepped all_clocked
   step_gives key input part outs is =
       ticked_held now table (Given_out now table) keep input _ (behind_ending now table (Given_out now table) keep _ (over_held now table (Given_out now table) keep (ending_authority now table) (ending_held now table (Given_out now table) keep) (count table) _
-      (withdrawn_gives _ (looked_kept now table _ (given_kept now table key input (found_in now part) outs (found_given now table part is))))))
+      (withdrawn_gives _ (over_keeps (Unready now table) (watching table) (watching_kept now table) (count table) _
+      (given_kept now table key input (record part { ixl = all_clocked now part.ixl }) outs (clock_given now table part.ixl.routes part.ixl.known_signals is))))))
     where
       keep : RulesKeep now table (Given_out now table)
       keep = out_keep now table

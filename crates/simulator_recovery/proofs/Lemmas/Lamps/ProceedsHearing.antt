@@ -1,14 +1,10 @@
 -- A client that is outside takes no item with a datagram, so it isn't ready after it.
 use Rattle.simulator_recovery.proofs.Words.Basics.{◌≡◌, ℕ, ◌∙◌, ◌+◌, Bool, true, false, not, ◌&&◌, ◌==◌, nat_le, nat_lt, List, [], Result, Ok, Err, if◌then◌else◌, refl, sym, ap, subst, false≢true}
-use Rattle.simulator_recovery.proofs.Words.Links.{hearing_bytes, opening, receiving, ticking as link_ticking, deadline, open_state, settled, state_at, granting, joining, OutboxState, connection_limit, entered, limited, sending, silent, telling, accepting, answers_request, asking, by_state, connected, hearing as link_hearing, refusing, resting, LinkState, is_client, is_open, is_up, Phase, State, Reason, Verdict, reading, Body, ConnectionRequest, ConnectionResponse, Data, DisconnectionRequest, Heartbeat, RetransmissionRequest, RetransmissionResponse, RetransmittedData, PduFault, Pdu, Identity}
+use Rattle.simulator_recovery.proofs.Words.Links.{hearing_bytes, opening, receiving, ticking as link_ticking, deadline, open_state, settled, state_at, granting, joining, OutboxState, connection_limit, entered, limited, sending, silent, telling, accepting, answers_request, asking, by_state, connected, hearing as link_hearing, refusing, resting, LinkState, is_client, is_open, is_up, Phase, State, Reason, Verdict, reading, Body, ConnectionRequest, ConnectionResponse, Data, DisconnectionRequest, Heartbeat, RetransmissionRequest, RetransmissionResponse, RetransmittedData, PduFault, Pdu}
 use Rattle.simulator_recovery.proofs.Words.Controllers.{VersionCheck}
-use Rattle.simulator_recovery.proofs.Words.Interlockings.{ClientState, IsClient, is_outside, is_ready, ClientSoFar, Receives, begun, calling, acting_all, at_stage, clocked, ending, fallen, hearing, rising, saying, ticking, Stage, watched}
+use Rattle.simulator_recovery.proofs.Words.Interlockings.{ClientState, IsClient, is_outside, is_ready, ClientSoFar, Receives, begun, calling, acting_all, at_stage, clocked, ending, fallen, hearing, rising, saying, ticking, Stage}
 use Rattle.simulator_recovery.proofs.Lemmas.Talk.ClientLinks.{up_open}
 use Rattle.simulator_recovery.proofs.Lemmas.Ground.LinkCounts.{settled_open}
-use Rattle.simulator_recovery.proofs.Lemmas.Ground.FoundIxl.{found_client}
-use Rattle.simulator_recovery.proofs.Lemmas.Ground.FoundClients.{by_closing, shut_identity, shut_so}
-use Rattle.simulator_recovery.proofs.Lemmas.Ground.ShutLinks.{not_up}
-use Rattle.simulator_recovery.proofs.Lemmas.Talk.StationTalk.{clocked_link}
 
 -- ---- a client's link that isn't up hands out nothing
 
@@ -166,13 +162,13 @@ falls_outside client out = choose (is_up client.link.phase)
 pub outside_hears : (now : ℕ) (bytes : List ℕ) (client : ClientState) (outbox : OutboxState) → IsOutside client → is_ready (hearing now bytes (begun client outbox)).client.stage ≡ false
 unfolding hearing calling acting_all
 outside_hears now bytes client outbox is =
-    subst (λ (items : List (List ℕ)). is_ready (ending now (acting_all now items (rising now (calling now (Receives bytes) (begun client outbox))))).client.stage ≡ false)
+    subst (λ (items : List (List ℕ)). is_ready (ending (acting_all now items (rising now (calling now (Receives bytes) (begun client outbox))))).client.stage ≡ false)
     (sym (receives_none now bytes client.link (record { asks = is.asks; down = is.down }))) none_acted
   where
     came : ClientSoFar
     came = calling now (Receives bytes) (begun client outbox)
 
-    none_acted : is_ready (ending now (acting_all now [] (rising now came))).client.stage ≡ false
+    none_acted : is_ready (ending (acting_all now [] (rising now came))).client.stage ≡ false
     none_acted = falls_unready (rising now came).client (rises_unready now came (outside_unready client.stage is.is_out))
 
 -- by a tick or the clock it stays outside
@@ -211,15 +207,6 @@ clocked_outside now client is = choose (is_up at.link.phase) refl
         both true e f = false≢true f
         both false e f = false≢true e
 
-    choose : (b : Bool) → is_up at.link.phase ≡ b → is_outside (if b then at else record at { stage = Stage.Outside }).stage ≡ true → IsOutside (watched now (if b then at else record at { stage = Stage.Outside }))
+    choose : (b : Bool) → is_up at.link.phase ≡ b → is_outside (if b then at else record at { stage = Stage.Outside }).stage ≡ true → IsOutside (if b then at else record at { stage = Stage.Outside })
     choose true e out = absurd (was_up e out)
     choose false e out = record { is_out = refl; asks = asks; down = e }
-
--- and so is that of one whose link was closed, since it wasn't caught up any more
-pub found_outside : (now : ℕ) (client : ClientState) → IsClient client → is_outside (found_client now client).stage ≡ true → IsOutside (found_client now client)
-found_outside now client is = by_closing (λ (c : ClientState). is_outside c.stage ≡ true → IsOutside c) now (clocked now client)
-    (λ behind out. record { is_out = out; asks = ap (λ (i : Identity). is_client i.role) (shut_identity now (clocked now client)) ∙ asks; down = not_up _ (shut_so now (clocked now client)).closed })
-    (λ calm out. clocked_outside now client is out)
-  where
-    asks : is_client (clocked now client).link.identity.role ≡ true
-    asks = ap (λ (l : LinkState). is_client l.identity.role) (clocked_link now client) ∙ settled_asks now client.link is.opens

@@ -1,16 +1,16 @@
 -- In a good round a signal is given nothing where a route proceeds from it before and after the round; so its lamp shows the aspect of the route.
-use Rattle.simulator_recovery.proofs.Words.Basics.{◌≡◌, ◌⊎◌, inl, inr, ℕ, true, false, List, [], ◌∷◌, Option, Some, None, slice_get, refl, sym, ap, subst, ◌∙◌, false≢true, ◌≢◌, suc, ◌+◌, ◌<◌, ◌≤◌, not, ◌++◌, length, arith, same_Some}
+use Rattle.simulator_recovery.proofs.Words.Basics.{◌≡◌, ◌⊎◌, inl, inr, ℕ, true, false, List, [], ◌∷◌, map, Option, Some, None, slice_get, refl, sym, ap, subst, ◌∙◌, false≢true, ◌≢◌, suc, ◌+◌, ◌<◌, ◌≤◌, not, ◌++◌, length, arith, same_Some}
 use Rattle.simulator_recovery.proofs.Words.Links.{reading_of, settled, Each, LinkState, is_up}
 use Rattle.simulator_recovery.proofs.Words.Controllers.{Occupancy, Aspect}
 use Rattle.simulator_recovery.proofs.Words.Interlockings.{IsTableOf, ClientState, IsClient, is_outside, clocked, is_proceeding, IxlState, KnownSignalState, RouteState, Commands, Datagram, Input, Tick, clocked_known_signal, begun_with, empty_outbox, known_signal_after, Row, Table, Command, begun, ticking, come_to, is_waiting, changed, SitedTable, is_set, Phase}
 use Rattle.simulator_recovery.proofs.Words.Stations.{DetectorEntry, Site, Once, IsStation, Point as PointEntry, Signal as SignalEntry, Event, NodeId, Beginning, Outset, at_zero, new_ixl, new_route_of, world_at, delivered_to, detector_anew, detector_stepped, happens, interlocking_stepped, made_anew, passed, point_anew, point_stepped, sensed_by, signal_anew, signal_stepped, ticked_at, connection_of, copy_of, Detector, Interlocking, Node, key_of, node_at, CanHappen, after_all, WorldState, IsReached, Represents, given_in, RoundEvent, Flowing, all_did, did, due, round, Played, after}
 use Rattle.simulator_recovery.proofs.Words.Machine.{Machine, KnownSignalFits, SeesSignal}
-use Rattle.simulator_recovery.proofs.Words.Recovery.{LawsBelow, HasHandedOver, GivesNoMore, IsCaughtUp, IsGivenNoMore, IsUpOn, StaysBelowLimit, link_rounds, HasTime, IsWork, all_tried, good_rounds, RouteProceeds, Shows, StaysGiven}
+use Rattle.simulator_recovery.proofs.Words.Recovery.{LawsBelow, HasHandedOver, GivesNoMore, IsGivenNoMore, IsUpOn, StaysBelowLimit, link_rounds, HasTime, IsWork, all_tried, good_rounds, RouteProceeds, Shows, StaysGiven}
 use Rattle.simulator_spec.specs.Nodes.{Point, Signal}
 use Rattle.simulator_recovery.proofs.Lemmas.Lamps.ConfirmedStops.{new_stands, standing_then}
 use Rattle.simulator_recovery.proofs.Lemmas.Ground.IxlClients.{mapped_at, changed_at, signal_is}
-use Rattle.simulator_recovery.proofs.Lemmas.Lamps.ProceedsGiven.{AspectsGiven, IsOut, OutsSo, step_gives, quiet_proceeds, withdrawn_not}
-use Rattle.simulator_recovery.proofs.Lemmas.Lamps.ProceedsHearing.{IsOutside, found_outside}
+use Rattle.simulator_recovery.proofs.Lemmas.Lamps.ProceedsGiven.{AspectsGiven, IsOut, OutsSo, after_client, step_gives, quiet_proceeds, withdrawn_not}
+use Rattle.simulator_recovery.proofs.Lemmas.Lamps.ProceedsHearing.{IsOutside, clocked_outside}
 use Rattle.simulator_recovery.proofs.Lemmas.Lamps.SeenSignals.{seen_then, client_same, controller_there}
 use Rattle.simulator_recovery.proofs.Lemmas.Ground.SignalParts.{AtRoute, IsQuiet, PartsKeep, new_signal, step_held}
 use Rattle.simulator_recovery.proofs.Lemmas.Windows.SignalWindows.{had_aspect}
@@ -22,12 +22,9 @@ use Rattle.simulator_recovery.proofs.Lemmas.Ground.LinkCounts.{settled_open}
 use Rattle.simulator_recovery.proofs.Lemmas.Ground.EndCalls.{each_both}
 use Rattle.simulator_recovery.proofs.Lemmas.Links.Ready.{count_front}
 use Rattle.simulator_recovery.proofs.Lemmas.Rounds.Rounds.{IsAt, rounds_reached, tried_keeps}
-use Rattle.simulator_recovery.proofs.Lemmas.Lamps.LeftSignals.{IsLeftAt, left_caught_up, round_left}
-use Rattle.simulator_recovery.proofs.Lemmas.Lamps.ShowsGiven.{reading_small, shows_given, signal_clock_within}
+use Rattle.simulator_recovery.proofs.Lemmas.Lamps.ShowsGiven.{shows_given}
 use Rattle.simulator_recovery.proofs.Lemmas.Lamps.StopComes.{entry_there, last_round}
 use Rattle.simulator_recovery.proofs.Lemmas.Lamps.StopsGiven.{StopsStand, proceeding_set, stand_keep, waiting_set}
-use Rattle.simulator_recovery.proofs.Lemmas.Ground.DueShapes.{found_in}
-use Rattle.simulator_recovery.proofs.Lemmas.Ground.FoundIxl.{found_signal, signal_at, signal_found}
 
 -- ---- after every list of events a route that proceeds has given its aspect to its signal, where the client of the signal isn't outside
 
@@ -123,19 +120,25 @@ module _ (laws : LawsBelow) (site : Site) (table : Table) (once : Once site) (st
   }
 
   -- the clients that are outside by the clock
-  outs_so : (world : WorldState) → IsReached site table world → OutsSo (reading_of world.interlocking.clock) table (found_in (reading_of world.interlocking.clock) (begun_with world.interlocking.ixl empty_outbox)).ixl.known_signals
+  outs_so : (world : WorldState) → IsReached site table world → OutsSo (reading_of world.interlocking.clock) table (map (clocked_known_signal (reading_of world.interlocking.clock)) world.interlocking.ixl.known_signals)
   outs_so world reached place known e out = subst (λ (k : KnownSignalState). IsOutside k.client) (sym found.2)
-      (subst IsOutside (sym (signal_found now was)) (found_outside now was.client (client_steady laws site table once station is_table world reached place was found.1)
-      (ap (λ (c : ClientState). is_outside c.stage) (sym (signal_found now was)) ∙ subst IsOut found.2 out)))
+      (after_client IsOutside was.aspect was.number was.indicated (clocked now was.client)
+      (clocked_outside now was.client (client_steady laws site table once station is_table world reached place was found.1) (client_out (subst IsOut found.2 out))))
     where
       now : ℕ
       now = reading_of world.interlocking.clock
 
-      found : (x : KnownSignalState) × (slice_get world.interlocking.ixl.known_signals place ≡ Some x) × (known ≡ found_signal now x)
-      found = signal_at now (begun_with world.interlocking.ixl empty_outbox) place known e
+      found : (x : KnownSignalState) × (slice_get world.interlocking.ixl.known_signals place ≡ Some x) × (known ≡ clocked_known_signal now x)
+      found = mapped_at (clocked_known_signal now) world.interlocking.ixl.known_signals place known e
 
       was : KnownSignalState
       was = found.0
+
+      client_out : IsOut (clocked_known_signal now was) → is_outside (clocked now was.client).stage ≡ true
+      client_out is = of_client was.aspect was.number was.indicated (clocked now was.client) is
+        where
+          of_client : (aspect : _) (number : ℕ) (indicated : _) (client : ClientState) → IsOut (known_signal_after aspect number indicated client) → is_outside client.stage ≡ true
+          of_client aspect number indicated client o = after_client (λ (c : ClientState). is_outside c.stage ≡ true → is_outside client.stage ≡ true) aspect number indicated client (λ same. same) o
 
   step_on : (input : Input) (world : WorldState) → IsReached site table world → Gives world.interlocking.ixl → Gives (interlocking_stepped site table input world).interlocking.ixl
   unfolding interlocking_stepped
@@ -389,7 +392,7 @@ pub route_shows : LawsBelow → (between : List Event) (later_rounds : List (Lis
     → RouteProceeds flowing.state.sited.table (good_rounds (between ∷ (later_rounds ++ [] ∷ [])) flowing).state.run.interlocking.ixl number row
     → Shows row.entry row.aspect (good_rounds (between ∷ (later_rounds ++ [] ∷ [])) flowing).state.run
 route_shows laws between later_rounds flowing number row once station is_table reached work works can long below was is =
-    shows_given laws sited.site sited.table old.state.run new.state.run row.entry row.aspect once station is_table at_old.reached at_new.reached few over caught
+    shows_given laws sited.site sited.table old.state.run new.state.run row.entry row.aspect once station is_table at_old.reached at_new.reached few over
     (stays_given laws sited.site sited.table once station is_table old.state.run new.state.run number row at_old.reached at_new.reached few over.before over.behind was is no_more)
   where
     sited : SitedTable
@@ -418,12 +421,6 @@ route_shows laws between later_rounds flowing number row once station is_table r
 
     then_is : new ≡ round old
     then_is = last_round (between ∷ later_rounds) [] flowing
-
-    -- the signal's controller has made a step in the round
-    caught : IsCaughtUp row.entry new.state.run
-    caught controller there = left_caught_up controller
-        (subst (λ (f : Flowing). IsLeftAt row.entry f.state) (sym then_is) (round_left old row.entry (subst (λ (s : SitedTable). row.entry < length s.site.signals) (sym at_old.same) few)) controller there)
-        (reading_small controller.clock (signal_clock_within sited.site sited.table new.state.run at_new.reached row.entry controller there))
 
     no_more : GivesNoMore row.entry old.state.run.interlocking.ixl new.state.run.interlocking.ixl
     no_more = subst (λ (f : Flowing). GivesNoMore row.entry old.state.run.interlocking.ixl f.state.run.interlocking.ixl) (sym then_is)

@@ -4,9 +4,9 @@ use Rattle.simulator_recovery.proofs.Words.Links.{Each, Links, LinksEvent, run_l
 use Rattle.simulator_recovery.proofs.Words.Controllers.{Aspect, Occupancy, SignalState}
 use Rattle.simulator_recovery.proofs.Words.Interlockings.{IsTableOf, At, Row, SitedTable, Table}
 use Rattle.simulator_recovery.proofs.Words.Stations.{Site, Once, IsStation, Event, Flowing, round, round_of_time, detector_stepped, happens, interlocking_stepped, sensed_by, shown_by, ClockedControllerState, WorldState, Played, after, IsReached}
-use Rattle.simulator_recovery.proofs.Words.Recovery.{HaveRoomOn, StayBelowOn, StaysBelowLimit, all_events_tried, behind_time, calls_of_round, event_of, link_rounds, links_behind, time_of_round, HasTime, IsWork, all_tried, clocks_of, good_rounds, RouteProceeds, ProceedsAt, ProceedsThrough, Shows, ShowsThrough, LawsBelow, IsCalmOn}
+use Rattle.simulator_recovery.proofs.Words.Recovery.{HaveRoomOn, StayBelowOn, StaysBelowLimit, all_events_tried, behind_time, calls_of_round, event_of, link_rounds, links_behind, time_of_round, HasTime, IsWork, all_tried, clocks_of, good_rounds, RouteProceeds, ProceedsAt, ProceedsThrough, Shows, ShowsThrough, LawsBelow}
 use Rattle.simulator_recovery.proofs.Lemmas.Rounds.LinkRounds.{after_each, events_both}
-use Rattle.simulator_recovery.proofs.Lemmas.Ground.EndCalls.{each_both, each_front}
+use Rattle.simulator_recovery.proofs.Lemmas.Ground.EndCalls.{each_both}
 use Rattle.simulator_recovery.proofs.Lemmas.Lamps.ProceedsRounds.{route_shows}
 use Rattle.simulator_recovery.proofs.Lemmas.Links.Ready.{count_front, fewer_time}
 use Rattle.simulator_recovery.proofs.Lemmas.Rounds.Rounds.{IsAt, round_reached, rounds_reached, tried_keeps}
@@ -27,13 +27,8 @@ calls_begin last flowing = events_both tried last timed ∙ ap (λ (l : List Lin
     timed = after flowing.state (round_of_time flowing.state.sited.site)
 
 below_alone : (link : ℕ) (later_rounds : List (List Event)) (last : List Event) (flowing : Flowing) (before : Links) → StayBelowOn link (later_rounds ++ last ∷ []) flowing before → StayBelowOn link (later_rounds ++ [] ∷ []) flowing before
-below_alone link [] last flowing before below = (
-  (
-    room_front link (calls_of_round [] flowing) _ (run_links (time_of_round flowing) before) (subst (λ (l : List LinksEvent). HaveRoomOn link l (run_links (time_of_round flowing) before)) (calls_begin last flowing) below.0.0),
-    λ trains. each_front (IsCalmOn flowing.state.sited.site link) (calls_of_round [] flowing) _ (subst (Each (IsCalmOn flowing.state.sited.site link)) (calls_begin last flowing) (below.0.1 trains)),
-  ),
-  tt,
-)
+below_alone link [] last flowing before below =
+    (room_front link (calls_of_round [] flowing) _ (run_links (time_of_round flowing) before) (subst (λ (l : List LinksEvent). HaveRoomOn link l (run_links (time_of_round flowing) before)) (calls_begin last flowing) below.0), tt)
 below_alone link (first ∷ later_rounds) last flowing before below = (below.0, below_alone link later_rounds last (all_tried first (round flowing)) (links_behind first flowing before) below.1)
 
 -- ---- requests and occupancies leave the lamps

@@ -1,17 +1,16 @@
 -- A lamp shows the aspect that its signal was given, where this has come over and nothing was given since.
 use Rattle.simulator_recovery.proofs.Words.Basics.{◌≡◌, ℕ, zero, suc, ◌+◌, ◌*◌, ◌≤◌, ◌&&◌, ◌==◌, nat_le, nat_lt, Bool, true, false, not, List, [], ◌∷◌, ◌++◌, length, map, drop, Option, Some, None, slice_get, refl, sym, subst, arith, slice_index_or, list_all, zip, false≢true, nat_tests, none-some, same_Some, ◌<◌, if◌then◌else◌, ap, ◌∙◌, Result, Ok, Err}
-use Rattle.simulator_recovery.proofs.Words.Links.{Each, alive_until, deadline, settled, reading_of, seen, Ends, LinkState, is_open, is_up}
+use Rattle.simulator_recovery.proofs.Words.Links.{Each, alive_until, deadline, settled, reading_of, seen, stops_at_greatest, Ends, LinkState, is_open, is_up}
 use Rattle.simulator_recovery.proofs.Words.Controllers.{SignalState, last_indicated, command_of, commands_of, is_command, reading, SciFault, Aspect, Message, SignalMessage, IndicateAspect, IndicatedAspect, Telegram, or_else, standing, indicates}
 use Rattle.simulator_recovery.proofs.Words.Interlockings.{changed, Table, IsTableOf, KnownSignalState}
 use Rattle.simulator_recovery.proofs.Words.Stations.{DetectorEntry, Site, Point as PointEntry, Signal as SignalEntry, Event, Refused, controller_anew, controller_later, Beginning, Outset, at_zero, first_controller, new_detector, new_signal, point_standing, world_at, all_later, detector_anew, happens, made_anew, passed, point_anew, signal_anew, Detector, Interlocking, Node, node_at, nodes, all_within, are_within, clock_limit, interlocking_within, is_missing, keeps_time, refusal, refusal_of_time, refused_where, CanHappen, after_all, ClockedControllerState, WorldState, IsReached, Once, IsStation, ServerEnd, end_of_server, links, shown_by, Represents}
-use Rattle.simulator_recovery.proofs.Words.Recovery.{clock_of, clocks_of, HasHandedOver, IsCaughtUp, IsUpOn, Shows, StaysGiven, LawsBelow}
+use Rattle.simulator_recovery.proofs.Words.Recovery.{clock_of, clocks_of, HasHandedOver, IsUpOn, Shows, StaysGiven, LawsBelow}
 use Rattle.simulator_recovery.proofs.Words.Machine.{last_of, Machine, Aspect as MachineAspect, Proceed as MachineProceed, Stop as MachineStop, all_said, aspect_seen, aspects_in, said_by}
 use Rattle.simulator_spec.specs.Nodes.{Point, Signal}
 use Rattle.simulator_move_laws.specs.Items.{aspects_of}
 use Rattle.simulator_recovery.proofs.Lemmas.Rounds.Clocks.{calm_still, each_joined}
 use Rattle.simulator_recovery.proofs.Lemmas.Ground.EndCalls.{each_both}
 use Rattle.simulator_recovery.proofs.Lemmas.Ground.DueTests.{first_true, last_true}
-use Rattle.simulator_recovery.proofs.Lemmas.Ground.CaughtUpHosts.{alive_later, restrictive_later}
 use Rattle.simulator_recovery.proofs.Lemmas.Talk.ClientLinks.{up_open}
 use Rattle.simulator_recovery.proofs.Lemmas.Links.HandedOver.{server_is}
 use Rattle.simulator_recovery.proofs.Lemmas.Ground.LinkCounts.{settled_open}
@@ -229,12 +228,20 @@ stands_before Aspect.Stop until now early = refl
 stands_before Aspect.Proceed until now early = ap (λ (b : Bool). if b then Aspect.Proceed else Aspect.Stop) (below now until early)
 stands_before Aspect.Slow until now early = ap (λ (b : Bool). if b then Aspect.Slow else Aspect.Stop) (below now until early)
 
-pub reading_small : (clock : ℕ) → IsWithin clock → reading_of clock ≤ 9000000000000
+early_still : (now moment : ℕ) → now < moment → now ≤ 9000000000000 → now < stops_at_greatest moment
+early_still now moment early small = grind (arith, early, small)
+
+-- a link that lives at a reading is alive until a later moment
+alive_later : (now : ℕ) (l : LinkState) → now < deadline l → now ≤ 9000000000000 → now < alive_until (record l { clock = now })
+unfolding alive_until deadline
+alive_later now l lives small = early_still now (if is_open l.phase then l.own_stamp + 1800 else l.closed_at) lives small
+
+reading_small : (clock : ℕ) → IsWithin clock → reading_of clock ≤ 9000000000000
 reading_small clock within = omega (arith, within)
 
 module _ (laws : LawsBelow) (site : Site) (table : Table) (world : WorldState) (machine : Machine) (represented : Represents site table world machine) (place : ℕ) (few : place < links site)
     (up : IsUpOn place world) (known : KnownSignalState) (there : slice_get world.interlocking.ixl.known_signals place ≡ Some known) (controller : ClockedControllerState SignalState) (stands : slice_get world.signals place ≡ Some controller)
-    (within : IsWithin controller.clock) (caught : IsCaughtUp place world) where
+    (within : IsWithin controller.clock) where
   abbrev now : ℕ
   now = reading_of controller.clock
 
@@ -256,11 +263,10 @@ module _ (laws : LawsBelow) (site : Site) (table : Table) (world : WorldState) (
   server_open : is_open ends.server.link.phase ≡ true
   server_open = ap (λ (l : LinkState). is_open l.phase) link_is ∙ up_open (settled now controller.host.link).phase up_there
 
-  -- its moment isn't over, since the link lives, and a strict controller is caught up
+  -- its moment isn't over, since the link lives
   early : now < controller.host.object.lamp.until
-  early = subst (λ (moment : ℕ). now < moment) (sym (represented.signals.each place controller stands).told.until)
-      (restrictive_later now controller.host.caught_up_until ends.server.link controller.host.is_strict (caught controller stands (up_open (settled now controller.host.link).phase up_there))
-      (subst (λ (l : LinkState). now < alive_until l) (sym (link_is ∙ lives.0)) (alive_later now controller.host.link lives.2 (reading_small controller.clock within))))
+  early = subst (λ (moment : ℕ). now < moment) (sym ((represented.signals.each place controller stands).told.until ∙ ap alive_until (link_is ∙ lives.0)))
+      (alive_later now controller.host.link lives.2 (reading_small controller.clock within))
 
   pub lamp_shows : (aspect : Aspect) → last_of MachineStop (machine.signals place).done ≡ aspect_seen aspect → shown_by controller ≡ aspect
   lamp_shows aspect last =
@@ -271,8 +277,8 @@ module _ (laws : LawsBelow) (site : Site) (table : Table) (world : WorldState) (
 -- ---- two moments
 
 pub shows_given : LawsBelow → (site : Site) (table : Table) (old new : WorldState) (place : ℕ) (aspect : Aspect) → Once site → IsStation site → IsTableOf site table → IsReached site table old → IsReached site table new → place < length site.signals
-    → HasHandedOver place old new → IsCaughtUp place new → StaysGiven place aspect old.interlocking.ixl new.interlocking.ixl → Shows place aspect new
-shows_given laws site table old new place aspect once station is_table reached_old reached_new few over caught given =
+    → HasHandedOver place old new → StaysGiven place aspect old.interlocking.ixl new.interlocking.ixl → Shows place aspect new
+shows_given laws site table old new place aspect once station is_table reached_old reached_new few over given =
     let was = seen_then laws site table once station is_table old reached_old
     in let is = seen_then laws site table once station is_table new reached_new
     in let below_links : place < links site = omega (arith, few)
@@ -284,4 +290,4 @@ shows_given laws site table old new place aspect once station is_table reached_o
     in let t = signal_at laws site table new is.0 is.1 place below_links over.behind after.0 after.1 second.0 second.1
     in let same = client_same laws site table old was.0 was.1 place below_links over.before before.0 before.1 first.0 first.1
     in let done = aspect_is_done s t (subst (λ (l : LinkState). l.given ≤ over.behind.server.link.taken) same over.to_controller) aspect (given before.0 after.0 before.1 after.1)
-    in (second.0, second.1, lamp_shows laws site table new is.0 is.1 place below_links over.behind after.0 after.1 second.0 second.1 (signal_clock_within site table new reached_new place second.0 second.1) caught aspect done)
+    in (second.0, second.1, lamp_shows laws site table new is.0 is.1 place below_links over.behind after.0 after.1 second.0 second.1 (signal_clock_within site table new reached_new place second.0 second.1) aspect done)

@@ -1,5 +1,5 @@
 -- A signal from which no route has its aspect was given stop last in the present connection, or no aspect.
-use Rattle.simulator_recovery.proofs.Words.Basics.{◌≡◌, ◌≢◌, ◌⊎◌, inl, inr, ℕ, zero, suc, ◌+◌, ◌==◌, ◌&&◌, Bool, true, false, if◌then◌else◌, List, [], ◌∷◌, length, Option, Some, None, slice_get, option_or, refl, sym, ap, subst, ◌∙◌, arith, ◌||◌, not, list_any, false≢true, nat_tests, none-some, same_Some, true≢false}
+use Rattle.simulator_recovery.proofs.Words.Basics.{◌≡◌, ◌≢◌, ◌⊎◌, inl, inr, ℕ, zero, suc, ◌+◌, ◌==◌, ◌&&◌, Bool, true, false, if◌then◌else◌, List, [], ◌∷◌, length, Option, Some, None, slice_get, option_or, refl, sym, ap, subst, ◌∙◌, arith, ◌||◌, not, list_any, false≢true, nat_tests, none-some, same_Some}
 use Rattle.simulator_recovery.proofs.Words.Links.{settled, is_up}
 use Rattle.simulator_recovery.proofs.Words.Controllers.{Aspect}
 use Rattle.simulator_recovery.proofs.Words.Interlockings.{ClientState, PeerState, is_outside, is_ready, ClientSoFar, begun, clocked, commanding, fallen, hearing, ticking, Stage, conflict_told, locking_refusal, closed_refusal, refusal, refused_where, request_refusal, set_anew, come_to, is_proceeding, is_waiting, IxlState, KnownSignalState, RouteState, changed, clocked_known_signal, known_signal_after, Row, Table, at, passes, blocks, first_blocking, holds_point_elsewhere, holds_section, is_holding, is_set, Command, Refusal, Phase}
@@ -9,8 +9,7 @@ use Rattle.simulator_spec.specs.ixl_client.declared.command.Command.{Command as 
 use Rattle.simulator_recovery.proofs.Lemmas.Talk.ClientCounts.{commanding_counts, hearing_counts, ticking_counts}
 use Rattle.simulator_recovery.proofs.Lemmas.Ground.IxlClients.{changed_at, mapped_at, signal_is}
 use Rattle.simulator_recovery.proofs.Lemmas.Ground.IxlSoFar.{set_at}
-use Rattle.simulator_recovery.proofs.Lemmas.Ground.SignalParts.{AtRoute, GoesOn, IsGiven, IsQuiet, PartsKeep, hears, new_signal, ticks, closes}
-use Rattle.simulator_recovery.proofs.Lemmas.Ground.FoundClients.{by_part, shut_so}
+use Rattle.simulator_recovery.proofs.Lemmas.Ground.SignalParts.{AtRoute, GoesOn, IsGiven, IsQuiet, PartsKeep, hears, new_signal, ticks}
 
 -- ---- a client that is ready stays so, or is outside
 
@@ -43,8 +42,6 @@ keeps_count part after none keeps = by_count part.client.peer part.client.stage 
 pub goes_on_stays : (now : ℕ) (old new : ClientState) → GoesOn now old new → Stays old.stage new.stage
 goes_on_stays now old new (hears bytes outbox is) = subst (λ (c : ClientState). Stays old.stage c.stage) (sym is) (keeps_count (begun old outbox) (hearing now bytes (begun old outbox)) refl (hearing_counts now bytes (begun old outbox)))
 goes_on_stays now old new (ticks outbox is) = subst (λ (c : ClientState). Stays old.stage c.stage) (sym is) (keeps_count (begun old outbox) (ticking now (begun old outbox)) refl (ticking_counts now (begun old outbox)))
-goes_on_stays now old new (closes outbox is) = subst (λ (c : ClientState). Stays old.stage c.stage) (sym is) (by_part (λ (c : ClientState). Stays old.stage c.stage) now (begun old outbox)
-    (λ behind ready inside. absurd (true≢false (sym (shut_so now old).outside ∙ inside))) (λ calm ready inside. ready))
 
 pub given_stays : (now : ℕ) (aspect : Aspect) (old new : ClientState) → IsGiven now aspect old new → is_outside new.stage ≡ false → is_ready new.stage ≡ true
 given_stays now aspect old new given = subst (λ (c : ClientState). is_outside c.stage ≡ false → is_ready c.stage ≡ true) (sym given.is)

@@ -1,9 +1,9 @@
 -- The links of a station come up, as long as nothing closes them.
-use Rattle.simulator_recovery.proofs.Words.Basics.{◌≡◌, ℕ, ◌+◌, ◌-◌, ◌<◌, Bool, true, false, nat_lt, Option, Some, None, List, [], ◌∷◌, ◌++◌, length, map, refl, sym, subst, arith, ltb-true, ltb-false, ◌≢◌, zero, suc, inl, inr, drop, ◌*◌, ◌≤◌, ◌==◌, if◌then◌else◌, ap, ◌∙◌, nat_tests, false≢true}
+use Rattle.simulator_recovery.proofs.Words.Basics.{◌≡◌, ℕ, ◌+◌, ◌-◌, ◌<◌, Bool, true, false, nat_lt, Option, Some, None, List, [], ◌∷◌, ◌++◌, length, map, refl, sym, subst, arith, ltb-true, ltb-false, ◌≢◌, zero, suc, inl, inr, drop, ◌*◌, ◌≤◌, ◌==◌, if◌then◌else◌, ap, ◌∙◌, nat_tests}
 use Rattle.simulator_recovery.proofs.Words.Links.{Each, Closes, Opens, Receives, Sends, Ticks, CallsOn, LinksEvent, LosesAny, PassesFor, RestartsOn, Role, AreUp, Flow, flow_after, BeginAtWork, WereSent, AreAtWork, HaveRoom, LeavesOpen, StayBelow, recovery_rounds_at_work, work_round, work_rounds, AreTimely, Sent, Calls, Elsewhere, Event as LinkEvent, IsAmong, IsRun, run, AreLinks, Links, begun, events_on, happened_to, of_link, run_links, run_on, seen, sent_by, start_of, Names, Ends, later, is_up}
 use Rattle.simulator_recovery.proofs.Words.Interlockings.{IsTableOf, SitedTable, Table}
 use Rattle.simulator_recovery.proofs.Words.Stations.{Site, Once, IsStation, Event, Refused, Flowing, round, round_of_time, links, refusal, WorldState, Played, after, refusal_of, events_of, IsReached, AreLinksOf, names_at, starts_at_zero, partners, IsStanding}
-use Rattle.simulator_recovery.proofs.Words.Recovery.{FillsNoWindowOn, LeavesClientOpen, LeavesOpenOn, LeavesServerOpen, all_events_tried, behind_time, calls_of_round, event_of, events_tried, events_where, all_tried, LawsBelow, HasRoomOn, HaveRoomOn, IsAtWorkOn, IsUpOn, StayBelowOn, StaysBelowLimit, calls_on, flow_of, link_rounds, links_behind, time_of_round, HasTime, IsWork, LeavesFresh, arrivals, clocks_of, good_rounds, IsCalmOn, IsCalmRound, KeepsOpenOn}
+use Rattle.simulator_recovery.proofs.Words.Recovery.{FillsNoWindowOn, LeavesClientOpen, LeavesOpenOn, LeavesServerOpen, all_events_tried, behind_time, calls_of_round, event_of, events_tried, events_where, all_tried, LawsBelow, HasRoomOn, HaveRoomOn, IsAtWorkOn, IsUpOn, StayBelowOn, StaysBelowLimit, calls_on, flow_of, link_rounds, links_behind, time_of_round, HasTime, IsWork, LeavesFresh, arrivals, clocks_of, good_rounds}
 use Rattle.simulator_recovery.proofs.Lemmas.Ground.EndCalls.{each_both, IsCallOn, at_place}
 use Rattle.simulator_recovery.proofs.Lemmas.Rounds.Rounds.{IsAt, round_reached, tried_reached, work_reached, each_can, each_later, has_all, one_round}
 use Rattle.simulator_recovery.proofs.Lemmas.Windows.SignalWindows.{signal_leaves}
@@ -22,59 +22,20 @@ use Rattle.simulator_recovery.proofs.Lemmas.Rounds.Sends.{leaves_fresh}
 
 -- ---- an event
 
-one_stays : (site : Site) (link : ℕ) (one : LinksEvent) → FillsNoWindowOn link one → LeavesClientOpen site one → LeavesServerOpen site one → LeavesOpenOn site link one
-one_stays site link (CallsOn at Role.Client (Closes why)) so (inl full) server = inl (so full)
-one_stays site link (CallsOn at Role.Client (Closes why)) so (inr for_trains) server = inr for_trains
-one_stays site link (CallsOn at Role.Server (Closes why)) so client server = inr server
-one_stays site link (CallsOn at who Ticks) so client server = tt
-one_stays site link (CallsOn at who Opens) so client server = tt
-one_stays site link (CallsOn at who (Sends item)) so client server = tt
-one_stays site link (CallsOn at who (Receives bytes connection)) so client server = tt
-one_stays site link (PassesFor elapsed of_clients of_servers) so client server = tt
-one_stays site link (LosesAny bytes) so client server = tt
-one_stays site link (RestartsOn at who clock first) so client server = tt
+one_stays : (link : ℕ) (one : LinksEvent) → FillsNoWindowOn link one → LeavesClientOpen one → LeavesServerOpen one → LeavesOpenOn link one
+one_stays link (CallsOn at Role.Client (Closes why)) so client server = so client
+one_stays link (CallsOn at Role.Server (Closes why)) so client server = absurd server
+one_stays link (CallsOn at who Ticks) so client server = tt
+one_stays link (CallsOn at who Opens) so client server = tt
+one_stays link (CallsOn at who (Sends item)) so client server = tt
+one_stays link (CallsOn at who (Receives bytes connection)) so client server = tt
+one_stays link (PassesFor elapsed of_clients of_servers) so client server = tt
+one_stays link (LosesAny bytes) so client server = tt
+one_stays link (RestartsOn at who clock first) so client server = tt
 
-all_stay : (site : Site) (link : ℕ) (events : List LinksEvent) → Each (FillsNoWindowOn link) events → Each (LeavesClientOpen site) events → Each (LeavesServerOpen site) events → Each (LeavesOpenOn site link) events
-all_stay site link [] so clients servers = tt
-all_stay site link (first ∷ others) so clients servers = (one_stays site link first so.0 clients.0 servers.0, all_stay site link others so.1 clients.1 servers.1)
-
--- what isn't closed to keep trains apart stays open
-one_calm : (site : Site) (link : ℕ) (one : LinksEvent) → LeavesOpenOn site link one → IsCalmOn site link one → KeepsOpenOn link one
-one_calm site link (CallsOn at who (Closes why)) (inl differ) calm = differ
-one_calm site link (CallsOn at who (Closes why)) (inr for_trains) calm = calm for_trains
-one_calm site link (CallsOn at who Ticks) so calm = tt
-one_calm site link (CallsOn at who Opens) so calm = tt
-one_calm site link (CallsOn at who (Sends item)) so calm = tt
-one_calm site link (CallsOn at who (Receives bytes connection)) so calm = tt
-one_calm site link (PassesFor elapsed of_clients of_servers) so calm = tt
-one_calm site link (LosesAny bytes) so calm = tt
-one_calm site link (RestartsOn at who clock first) so calm = tt
-
-all_calm : (site : Site) (link : ℕ) (events : List LinksEvent) → Each (LeavesOpenOn site link) events → Each (IsCalmOn site link) events → Each (KeepsOpenOn link) events
-all_calm site link [] so calm = tt
-all_calm site link (first ∷ others) so calm = (one_calm site link first so.0 calm.0, all_calm site link others so.1 calm.1)
-
--- where trains aren't kept apart nothing is closed for that
-one_easy : (site : Site) (link : ℕ) (one : LinksEvent) → site.station.trains ≡ false → IsCalmOn site link one
-one_easy site link (CallsOn at who (Closes why)) easy = λ for_trains. absurd (false≢true (sym easy ∙ for_trains.0))
-one_easy site link (CallsOn at who Ticks) easy = tt
-one_easy site link (CallsOn at who Opens) easy = tt
-one_easy site link (CallsOn at who (Sends item)) easy = tt
-one_easy site link (CallsOn at who (Receives bytes connection)) easy = tt
-one_easy site link (PassesFor elapsed of_clients of_servers) easy = tt
-one_easy site link (LosesAny bytes) easy = tt
-one_easy site link (RestartsOn at who clock first) easy = tt
-
-all_easy : (site : Site) (link : ℕ) (events : List LinksEvent) → site.station.trains ≡ false → Each (IsCalmOn site link) events
-all_easy site link [] easy = tt
-all_easy site link (first ∷ others) easy = (one_easy site link first easy, all_easy site link others easy)
-
-round_calm : (link : ℕ) (between : List Event) (flowing : Flowing) → IsCalmRound link between flowing → Each (IsCalmOn flowing.state.sited.site link) (calls_of_round between flowing)
-round_calm link between flowing calm = choose flowing.state.sited.site.station.trains refl
-  where
-    choose : (b : Bool) → flowing.state.sited.site.station.trains ≡ b → Each (IsCalmOn flowing.state.sited.site link) (calls_of_round between flowing)
-    choose true e = calm e
-    choose false e = all_easy flowing.state.sited.site link (calls_of_round between flowing) e
+all_stay : (link : ℕ) (events : List LinksEvent) → Each (FillsNoWindowOn link) events → Each LeavesClientOpen events → Each LeavesServerOpen events → Each (LeavesOpenOn link) events
+all_stay link [] so clients servers = tt
+all_stay link (first ∷ others) so clients servers = (one_stays link first so.0 clients.0 servers.0, all_stay link others so.1 clients.1 servers.1)
 
 -- the link is that of a signal, of a point or of a detector
 fills_none : LawsBelow → (site : Site) (table : Table) (world : WorldState) (happening : Event) (link : ℕ) → IsStation site → Once site → IsTableOf site table → IsReached site table world
@@ -90,8 +51,8 @@ fills_none laws site table world happening link station once is_table reached ma
     choose false e false f = subst Fills (omega (arith, ltb-false _ _ f)) (detector_leaves laws site table station once (link - (length site.signals + length site.points)) (omega (arith, ltb-false _ _ f, there)) world reached happening may)
 
 pub closes_none : LawsBelow → (site : Site) (table : Table) (world : WorldState) (happening : Event) (link : ℕ) → IsStation site → Once site → IsTableOf site table → IsReached site table world
-    → refusal site happening world ≡ None → link < links site → Each (LeavesOpenOn site link) (events_of site table happening world)
-closes_none laws site table world happening link station once is_table reached may there = all_stay site link (events_of site table happening world)
+    → refusal site happening world ≡ None → link < links site → Each (LeavesOpenOn link) (events_of site table happening world)
+closes_none laws site table world happening link station once is_table reached may there = all_stay link (events_of site table happening world)
     (fills_none laws site table world happening link station once is_table reached may there)
     (stay_open laws site table station once is_table world reached happening may) (close_none laws site table station once is_table world reached happening may)
 
@@ -103,7 +64,7 @@ calls_of_rounds [] flowing = []
 calls_of_rounds (between ∷ later) flowing = calls_of_round between flowing ∷ calls_of_rounds later (all_tried between (round flowing))
 
 module _ (laws : LawsBelow) (sited : SitedTable) (station : IsStation sited.site) (once : Once sited.site) (is_table : IsTableOf sited.site sited.table) (link : ℕ) (there : link < links sited.site) where
-  tried_stays : (one : Event) (world : Played) → IsAt sited world → Each (LeavesOpenOn sited.site link) (events_tried one world)
+  tried_stays : (one : Event) (world : Played) → IsAt sited world → Each (LeavesOpenOn link) (events_tried one world)
   tried_stays one world is = by_refusal (refusal_of one world) refl
     where
       events : List LinksEvent
@@ -124,25 +85,20 @@ module _ (laws : LawsBelow) (sited : SitedTable) (station : IsStation sited.site
       there_so : link < links world.sited.site
       there_so = subst (λ (s : SitedTable). link < links s.site) (sym is.same) there
 
-      by_refusal : (why : Option Refused) → refusal_of one world ≡ why → Each (LeavesOpenOn sited.site link) (events_where why events)
+      by_refusal : (why : Option Refused) → refusal_of one world ≡ why → Each (LeavesOpenOn link) (events_where why events)
       by_refusal (Some why) e = tt
-      by_refusal None e = subst (λ (s : SitedTable). Each (LeavesOpenOn s.site link) events) is.same (closes_none laws world.sited.site world.sited.table world.run one link station_so once_so is_table_so reached e there_so)
+      by_refusal None e = closes_none laws world.sited.site world.sited.table world.run one link station_so once_so is_table_so reached e there_so
 
-  all_tried_stay : (list : List Event) (world : Played) → IsAt sited world → Each (LeavesOpenOn sited.site link) (all_events_tried list world)
+  all_tried_stay : (list : List Event) (world : Played) → IsAt sited world → Each (LeavesOpenOn link) (all_events_tried list world)
   all_tried_stay [] world is = tt
-  all_tried_stay (first ∷ others) world is = each_both (LeavesOpenOn sited.site link) (events_tried first world) (all_events_tried others (after world first))
+  all_tried_stay (first ∷ others) world is = each_both (LeavesOpenOn link) (events_tried first world) (all_events_tried others (after world first))
       (tried_stays first world is) (all_tried_stay others (after world first) (tried_reached laws sited world first is))
 
-  round_stays : (between : List Event) (flowing : Flowing) → IsAt sited flowing.state → IsCalmRound link between flowing → Each (KeepsOpenOn link) (calls_of_round between flowing)
-  round_stays between flowing is calm = all_calm sited.site link (calls_of_round between flowing)
-      (all_tried_stay (map event_of (behind_time flowing) ++ between) (after flowing.state (round_of_time flowing.state.sited.site)) (tried_reached laws sited flowing.state (round_of_time flowing.state.sited.site) is))
-      (subst (λ (s : SitedTable). Each (IsCalmOn s.site link) (calls_of_round between flowing)) is.same (round_calm link between flowing calm))
-
-  pub rounds_stay : (rounds : List (List Event)) (flowing : Flowing) (before : Links) → IsAt sited flowing.state → StayBelowOn link rounds flowing before → Each (Each (KeepsOpenOn link)) (calls_of_rounds rounds flowing)
-  rounds_stay [] flowing before is below = tt
-  rounds_stay (between ∷ later) flowing before is below = (
-    round_stays between flowing is below.0.1,
-    rounds_stay later (all_tried between (round flowing)) (links_behind between flowing before) (work_reached laws sited between (round flowing) (round_reached laws sited flowing is)) below.1,
+  pub rounds_stay : (rounds : List (List Event)) (flowing : Flowing) → IsAt sited flowing.state → Each (Each (LeavesOpenOn link)) (calls_of_rounds rounds flowing)
+  rounds_stay [] flowing is = tt
+  rounds_stay (between ∷ later) flowing is = (
+    all_tried_stay (map event_of (behind_time flowing) ++ between) (after flowing.state (round_of_time flowing.state.sited.site)) (tried_reached laws sited flowing.state (round_of_time flowing.state.sited.site) is),
+    rounds_stay later (all_tried between (round flowing)) (work_reached laws sited between (round flowing) (round_reached laws sited flowing is)),
   )
 
 -- ---- the links of a station come up, as long as nothing closes them
@@ -159,7 +115,7 @@ not_same a b differ = choose (a == b) refl
     choose true e = absurd (differ (same e))
     choose false e = refl
 
-one_open : (link : ℕ) (one : LinksEvent) (before : Links) → IsCallOn one → KeepsOpenOn link one → Each LeavesOpen (events_on link one before)
+one_open : (link : ℕ) (one : LinksEvent) (before : Links) → IsCallOn one → LeavesOpenOn link one → Each LeavesOpen (events_on link one before)
 one_open link (CallsOn at who (Closes why)) before is open_so = subst (λ (b : Bool). Each LeavesOpen (if b then Calls who (Closes why) ∷ [] else Elsewhere (length (sent_by who (Closes why) (seen at before))) ∷ [])) (sym (not_same link at open_so)) (tt, tt)
 one_open link (CallsOn at who Ticks) before is open_so = choose (link == at)
   where
@@ -185,7 +141,7 @@ one_open link (PassesFor elapsed of_clients of_servers) before is open_so = absu
 one_open link (LosesAny bytes) before is open_so = absurd is
 one_open link (RestartsOn at who clock first) before is open_so = absurd is
 
-all_open : (link : ℕ) (events : List LinksEvent) (before : Links) → Each IsCallOn events → Each (KeepsOpenOn link) events → Each LeavesOpen (run_on link events before)
+all_open : (link : ℕ) (events : List LinksEvent) (before : Links) → Each IsCallOn events → Each (LeavesOpenOn link) events → Each LeavesOpen (run_on link events before)
 all_open link [] before each open_so = tt
 all_open link (first ∷ others) before each open_so =
     each_both LeavesOpen (events_on link first before) (run_on link others (happened_to first before)) (one_open link first before each.0 open_so.0) (all_open link others (happened_to first before) each.1 open_so.1)
@@ -219,7 +175,7 @@ pub lists_length : (link : ℕ) (rounds : List (List Event)) (flowing : Flowing)
 lists_length link [] flowing before = refl
 lists_length link (between ∷ later) flowing before = ap suc (lists_length link later (all_tried between (round flowing)) (links_behind between flowing before))
 
-pub rounds_open : (link : ℕ) (rounds : List (List Event)) (flowing : Flowing) (before : Links) → Each (Each IsWork) rounds → Each (Each (KeepsOpenOn link)) (calls_of_rounds rounds flowing) → Each (Each LeavesOpen) (lists_on link rounds flowing before)
+pub rounds_open : (link : ℕ) (rounds : List (List Event)) (flowing : Flowing) (before : Links) → Each (Each IsWork) rounds → Each (Each (LeavesOpenOn link)) (calls_of_rounds rounds flowing) → Each (Each LeavesOpen) (lists_on link rounds flowing before)
 rounds_open link [] flowing before work open_so = tt
 rounds_open link (between ∷ later) flowing before work open_so = (
   all_open link (calls_of_round between flowing) (run_links (time_of_round flowing) before) (round_called between flowing (after flowing.state (round_of_time flowing.state.sited.site)) work.0) open_so.0,
@@ -307,7 +263,7 @@ module _ (laws : LawsBelow) (sited : SitedTable) (station : IsStation sited.site
     ends = more.ends;
     below = λ stay. (
       later_room new before (calls_on link between new before) time
-          (all_room laws.each_link_sees_its_events_event link (calls_of_round between new) (run_links (time_of_round new) before) (round_called between new (after new.state (round_of_time new.state.sited.site)) work) stay.0.0),
+          (all_room laws.each_link_sees_its_events_event link (calls_of_round between new) (run_links (time_of_round new) before) (round_called between new (after new.state (round_of_time new.state.sited.site)) work) stay.0),
       more.below stay.1,
     );
     after_is = more.after_is;
@@ -503,4 +459,4 @@ come_up laws between later_rounds flowing link once station is_table reached wor
     in let b = behind_rounds laws sited station once is_table link there between flowing work start later_rounds works (start.later_can (length later_rounds) can)
     in let many = lists_length link later_rounds next start.before
     in up_on laws sited station once is_table link there (good_rounds later_rounds next).state.run b.after b.are
-    (up_at laws sited station once is_table link there flowing next (begun_at laws sited station once is_table link there between flowing work start) later_rounds b (rounds_open link later_rounds next start.before works (rounds_stay laws sited station once is_table link there later_rounds next start.before start.is (below start.before start.has.are))) (b.below below) (omega (arith, long, many)))
+    (up_at laws sited station once is_table link there flowing next (begun_at laws sited station once is_table link there between flowing work start) later_rounds b (rounds_open link later_rounds next start.before works (rounds_stay laws sited station once is_table link there later_rounds next start.is)) (b.below below) (omega (arith, long, many)))

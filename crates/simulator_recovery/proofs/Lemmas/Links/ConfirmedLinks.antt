@@ -138,7 +138,7 @@ links_confirm laws between later_rounds replied last flowing link once station i
     in let later_can = start.later_can (length rounds) can
     in let b = behind_rounds laws sited station once is_table link there between flowing work start rounds works later_can
     in let t : IsUpBehind laws sited station once is_table link there between flowing work start rounds
-    = record { behind = b; opens = rounds_open link rounds next start.before works (rounds_stay laws sited station once is_table link there rounds next start.before start.is (below start.before start.has.are)); below = b.below below; long = omega (arith, long, count, count_middle) }
+    = record { behind = b; opens = rounds_open link rounds next start.before works (rounds_stay laws sited station once is_table link there rounds next start.is); below = b.below below; long = omega (arith, long, count, count_middle) }
     in let m = front_of laws sited station once is_table link there between flowing work start middle last works later_can t (omega (arith, long, count_middle))
     in let s = front_of laws sited station once is_table link there between flowing work start later_rounds replied (each_front (Each IsWork) middle last works).0
     (fewer_time (length middle) (length rounds) (clocks_of next.state.run) (omega (arith, count)) later_can) m (omega (arith, long))

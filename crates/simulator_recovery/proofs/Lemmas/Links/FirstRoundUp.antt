@@ -343,7 +343,7 @@ come_up_from_the_first laws read tested between later_rounds flowing link once s
     in let many = lists_length link (between ∷ later_rounds) flowing start.before
     in up_on laws site_table station once is_table link there (good_rounds (between ∷ later_rounds) flowing).state.run b.after b.are
     (up_at laws site_table station once is_table link there before_it flowing start (between ∷ later_rounds) b
-    (rounds_open link (between ∷ later_rounds) flowing start.before (work, works) (rounds_stay laws site_table station once is_table link there (between ∷ later_rounds) flowing start.before start.is (below start.before start.has.are)))
+    (rounds_open link (between ∷ later_rounds) flowing start.before (work, works) (rounds_stay laws site_table station once is_table link there (between ∷ later_rounds) flowing start.is))
     (b.below below) (omega (arith, long, many)))
 
 pub ready_from_the_first : LawsBelow → ReadIsIntact → IntactIsTested → (between : List Event) (later_rounds : List (List Event)) (flowing : Flowing) (link : ℕ) → Once flowing.state.sited.site

@@ -62,7 +62,7 @@ hands_over laws between later_rounds last flowing link once station is_table rea
     in let later_can = start.later_can (length rounds) can
     in let b = behind_rounds laws sited station once is_table link there between flowing work start rounds works later_can
     in let t : IsUpBehind laws sited station once is_table link there between flowing work start rounds
-    = record { behind = b; opens = rounds_open link rounds next start.before works (rounds_stay laws sited station once is_table link there rounds next start.before start.is (below start.before start.has.are)); below = b.below below; long = omega (arith, long, count) }
+    = record { behind = b; opens = rounds_open link rounds next start.before works (rounds_stay laws sited station once is_table link there rounds next start.is); below = b.below below; long = omega (arith, long, count) }
     in let s = front_of laws sited station once is_table link there between flowing work start later_rounds last works later_can t (omega (arith, long))
     in handed sited.site link there (good_rounds later_rounds next).state.run (good_rounds rounds next).state.run s.behind.after t.behind.after s.behind.are t.behind.are
     (up_on laws sited station once is_table link there (good_rounds later_rounds next).state.run s.behind.after s.behind.are (ups laws sited station once is_table link there between flowing work start later_rounds s))

@@ -248,7 +248,7 @@ module _ (laws : LawsBelow) (sited : SitedTable) (station : IsStation sited.site
       → IsReadyOn sited.site link (world_at rounds)
   ready_at rounds works can long below =
       let b = behind_at laws sited station once is_table link there old next start rounds works can
-      in let whole : IsUpAt rounds = record { behind = b; opens = rounds_open link rounds next start.before works (rounds_stay laws sited station once is_table link there rounds next start.before start.is (below start.before start.has.are)); below = b.below below; long = omega (arith, long) }
+      in let whole : IsUpAt rounds = record { behind = b; opens = rounds_open link rounds next start.before works (rounds_stay laws sited station once is_table link there rounds next start.is); below = b.below below; long = omega (arith, long) }
       in let b3 = goes_back rounds works can (omega (arith, long)) whole
       in let b2 = goes_back b3.front b3.works b3.can (omega (arith, long, b3.one_less)) b3.stage
       in let b1 = goes_back b2.front b2.works b2.can (omega (arith, long, b3.one_less, b2.one_less)) b2.stage

@@ -163,7 +163,7 @@ module _ (laws : LawsBelow) (between : List Event) (flowing : Flowing) (link : â
       t : IsUpBehind laws sited station once is_table link there between flowing work begins rounds
       t = let b = behind_rounds laws sited station once is_table link there between flowing work begins rounds all_work later_can in record {
         behind = b;
-        opens = rounds_open link rounds begun begins.before all_work (rounds_stay laws sited station once is_table link there rounds begun begins.before begins.is (below begins.before begins.has.are));
+        opens = rounds_open link rounds begun begins.before all_work (rounds_stay laws sited station once is_table link there rounds begun begins.is);
         below = b.below below;
         long = let c = count in omega (arith, long, c);
       }

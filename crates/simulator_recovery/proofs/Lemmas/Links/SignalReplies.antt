@@ -1,10 +1,9 @@
 -- A signal that acts on an aspect owes a report of it, and its host sends that at once.
 use Rattle.simulator_recovery.proofs.Words.Basics.{◌≡◌, ℕ, suc, Bool, true, false, not, ◌||◌, ◌⊎◌, inl, inr, List, [], ◌∷◌, ◌++◌, append_assoc, Option, Some, None, Result, Ok, Err, refl, sym, ap, subst, ◌∙◌, if◌then◌else◌, is_ok, false≢true}
 use Rattle.simulator_recovery.proofs.Words.Links.{answer_to_send, closing_by, receiving, closing, entered, silent as stays_silent, telling, Receipt, LinkState, is_open, Reason}
-use Rattle.simulator_recovery.proofs.Words.Controllers.{reading, writing, SciFault, Aspect, InitialisationCompleted, InitialisationRequest, StartInitialisation, VersionAnswer, VersionCheck, Message, Telegram, Behaviour, HostSoFar, HostState, LinkCall, Sends, is_completed, silent, telegram_of, then_do, meaning, acting, acting_all, beating, commanding, following, given, goes_on, hearing, host_step, is_admitted, most_owed, paid, paying, paying_first, posting, received, violating, Input, Report, Stage, SignalState, fits, indicated_report, indicates, signal_behaviour, told as told_of, after_refusal, found, going_on}
+use Rattle.simulator_recovery.proofs.Words.Controllers.{reading, writing, SciFault, Aspect, InitialisationCompleted, InitialisationRequest, StartInitialisation, VersionAnswer, VersionCheck, Message, Telegram, Behaviour, HostSoFar, HostState, LinkCall, Sends, is_completed, silent, telegram_of, then_do, meaning, acting, acting_all, beating, beginning, commanding, following, given, goes_on, hearing, host_step, is_admitted, most_owed, paid, paying, paying_first, posting, received, violating, Input, Report, Stage, SignalState, fits, indicated_report, indicates, signal_behaviour, told as told_of}
 use Rattle.simulator_recovery.proofs.Words.Recovery.{GoOnWith, behind_what_comes, indication}
 use Rattle.simulator_spec.specs.object_host.Meaning.{commanding as by_stage}
-use Rattle.simulator_recovery.proofs.Lemmas.Ground.FoundHosts.{found_told}
 
 -- ---- what is owed is sent
 
@@ -25,7 +24,7 @@ module _ {Object : Type 0} (does : Behaviour Object) (now : ℕ) where
       sent = posting now report host
 
       first : Bool → Bool → HostSoFar Object
-      first b c = if not b then silent (paid does host) else (if c then record sent { host = paid does sent.host } else then_do sent (after_refusal does now (answer_to_send now host.link)))
+      first b c = if not b then silent (paid does host) else (if c then record sent { host = paid does sent.host } else sent)
 
       by_tests : (b c : Bool) → b ≡ true → c ≡ true → Pays report host (if not b || c then then_do (first b c) (paying does now more) else first b c).calls
       by_tests true true e f = record { rest = (paying does now more (paid does sent.host)).calls; are = refl }
@@ -173,25 +172,17 @@ module _ (now : ℕ) where
 
 pub reports_at_once : (now : ℕ) (input : Input) (host : HostState SignalState) → ((behind_what_comes now input host).told ≡ [] → ⊥) → is_open (behind_what_comes now input host).host.link.phase ≡ true
     → is_ok (answer_to_send now (behind_what_comes now input host).host.link) ≡ true → GoOnWith (indication (behind_what_comes now input host).host) (behind_what_comes now input host).calls (host_step signal_behaviour now input host).calls
-unfolding host_step going_on
+unfolding host_step
 reports_at_once now input host some opened accepts = record {
   rest = first.rest ++ ticks.calls;
-  are = ap (λ (calls : List LinkCall). begun.calls ++ ((comes.calls ++ calls) ++ ticks.calls)) first.are
-      ∙ ap (λ (calls : List LinkCall). begun.calls ++ calls) (append_assoc comes.calls (Sends (indication heard.host) ∷ first.rest) ticks.calls)
-      ∙ sym (append_assoc begun.calls comes.calls (Sends (indication heard.host) ∷ (first.rest ++ ticks.calls)));
+  are = ap (λ (calls : List LinkCall). (heard.calls ++ calls) ++ ticks.calls) first.are ∙ append_assoc heard.calls (Sends (indication heard.host) ∷ first.rest) ticks.calls;
 }
   where
-    begun : HostSoFar SignalState
-    begun = found signal_behaviour now host
-
-    comes : HostSoFar SignalState
-    comes = given signal_behaviour now input begun.host
-
     heard : HostSoFar SignalState
     heard = behind_what_comes now input host
 
     o : Owes heard.host
-    o = comes_owes now input begun.host (λ none. some (ap (λ (told : List Telegram). told ++ comes.told) (found_told signal_behaviour now host) ∙ none)) opened
+    o = comes_owes now input (beginning signal_behaviour now host) some opened
 
     first : Pays signal_behaviour now (indicated_report heard.host.object) heard.host (paying signal_behaviour now most_owed heard.host).calls
     first = pays signal_behaviour now 19 heard.host (indicated_report heard.host.object) (ap (λ (b : Bool). if b then Some (indicated_report heard.host.object) else None) o.owes) o.completed accepts

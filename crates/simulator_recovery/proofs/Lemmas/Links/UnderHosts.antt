@@ -51,7 +51,7 @@ module _ (laws : LawsBelow) (between : List Event) (later_rounds : List (List Ev
   t : IsUpBehind laws sited station once is_table link there between flowing work start later_rounds
   t = record {
     behind = b;
-    opens = rounds_open link later_rounds next start.before works (rounds_stay laws sited station once is_table link there later_rounds next start.before start.is (below start.before start.has.are));
+    opens = rounds_open link later_rounds next start.before works (rounds_stay laws sited station once is_table link there later_rounds next start.is);
     below = b.below below;
     long = omega (arith, long);
   }

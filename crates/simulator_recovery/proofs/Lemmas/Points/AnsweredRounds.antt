@@ -1,11 +1,11 @@
 -- A point for which no route waits, but cancelled ones, is given no move in good rounds between which no request comes, so none is unanswered.
 use Rattle.simulator_recovery.proofs.Words.Basics.{◌≡◌, ◌⊎◌, inl, inr, ℕ, ◌∙◌, ◌&&◌, Bool, true, false, List, [], Some, slice_get, refl, sym, ap, subst, Contains, not, false≢true, ◌<◌, ◌∷◌, length, Option, None, arith, same_Some}
 use Rattle.simulator_recovery.proofs.Words.Links.{settled, reading_of, OutboxState, is_up, Key, Each, LinkState}
-use Rattle.simulator_recovery.proofs.Words.Interlockings.{lies_in_closed, ClientState, is_ready, begun, clocked, hearing, ticking, Stage, come_to, is_move_due, is_over_clear, is_unmoved, is_waiting, IxlState, KnownPointState, KnownSignalState, RouteState, changed, Commands, Input, given, stepped, StepSoFar, begun_with, empty_outbox, giving_move, over, Need, Row, Table, is_held_with_authority, is_known, is_point_available, Command, Phase, IsTableOf, SitedTable, closing_behind}
+use Rattle.simulator_recovery.proofs.Words.Interlockings.{lies_in_closed, ClientState, is_ready, begun, clocked, hearing, ticking, Stage, come_to, is_move_due, is_over_clear, is_unmoved, is_waiting, IxlState, KnownPointState, KnownSignalState, RouteState, changed, Commands, Input, given, stepped, StepSoFar, begun_with, empty_outbox, giving_move, over, Need, Row, Table, is_held_with_authority, is_known, is_point_available, Command, Phase, IsTableOf, SitedTable}
 use Rattle.simulator_recovery.proofs.Words.Stations.{Site, interlocking_stepped, key_of, WorldState, Once, IsStation, Event, Flowing, round, detector_stepped, happens, sensed_by, point_link, Played, after, IsReached}
 use Rattle.simulator_recovery.proofs.Words.Recovery.{NoneWaitsFor, HasGivenSince, IsOccupancy, IsReadyOn, all_tried, good_rounds, AwaitsMove, LawsBelow}
 use Rattle.simulator_recovery.proofs.Words.Controllers.{Occupancy}
-use Rattle.simulator_recovery.proofs.Lemmas.Ground.AspectCalls.{hears, ticks, closes}
+use Rattle.simulator_recovery.proofs.Lemmas.Ground.AspectCalls.{hears, ticks}
 use Rattle.simulator_recovery.proofs.Lemmas.RoutesComing.DueGiven.{waits_there}
 use Rattle.simulator_recovery.proofs.Lemmas.Ground.DueShapes.{one_keeps}
 use Rattle.simulator_recovery.proofs.Lemmas.Windows.FewItems.{GivesFew, GivenBy}
@@ -20,7 +20,6 @@ use Rattle.simulator_recovery.proofs.Lemmas.Ground.LinkCounts.{settled_open}
 use Rattle.simulator_recovery.proofs.Lemmas.Points.MovesMoment.{PointAt, point_at}
 use Rattle.simulator_recovery.proofs.Lemmas.Rounds.Rounds.{tried_keeps}
 use Rattle.simulator_recovery.proofs.Lemmas.Talk.Standing.{stand_by_counts}
-use Rattle.simulator_recovery.proofs.Lemmas.Ground.FoundClients.{by_part, shut_so}
 
 -- ---- a point for which no route waits, but cancelled ones, is given no move in a good round between which no request comes
 
@@ -93,7 +92,7 @@ module _ (site : Site) (now point items : ℕ) where
       was = still (back awaits)
 
       up : is_up new.link.phase ≡ true
-      up = went.up (λ inside. was.up) (ready_inside new.stage (ap is_ready awaits))
+      up = went.up (ready_inside new.stage (ap is_ready awaits))
 
   heard_still : (client : ClientState) (outbox : OutboxState) (bytes : List ℕ) → Still client → Still (hearing now bytes (begun client outbox)).client
   heard_still client outbox bytes = went_still client (hearing now bytes (begun client outbox)).client (done_went now client (hearing now bytes (begun client outbox)) (hears bytes outbox refl))
@@ -102,10 +101,6 @@ module _ (site : Site) (now point items : ℕ) where
   ticked_still : (client : ClientState) (outbox : OutboxState) → Still client → Still (ticking now (begun client outbox)).client
   ticked_still client outbox = went_still client (ticking now (begun client outbox)).client (done_went now client (ticking now (begun client outbox)) (ticks outbox refl))
       (ticks_nothing site now 0 client outbox []).awaited
-
-  closed_still : (client : ClientState) (outbox : OutboxState) → Still client → Still (closing_behind now (begun client outbox)).client
-  closed_still client outbox = went_still client (closing_behind now (begun client outbox)).client (done_went now client (closing_behind now (begun client outbox)) (closes outbox refl))
-      (by_part (λ (c : ClientState). c.stage ≡ Stage.AwaitsReport → client.stage ≡ Stage.AwaitsReport) now (begun client outbox) (λ behind e. absurd (cc (sym (shut_so now client).stage_is ∙ e))) (λ calm e. e))
 
   clocked_still : (client : ClientState) → Still client → Still (clocked now client)
   unfolding clocked
@@ -117,7 +112,6 @@ module _ (site : Site) (now point items : ℕ) where
   still_keeps : ClientsKeep now StillAt
   still_keeps = record {
     clock = λ known still. subst Still (sym (point_client _ _ _)) (clocked_still known.client still);
-    closes = λ known outbox still. subst Still (sym (point_client _ _ _)) (closed_still known.client outbox still);
     hears = λ known side bytes outbox still. subst Still (sym (point_client _ _ _)) (heard_still known.client outbox bytes still);
     ticks = λ known outbox still. subst Still (sym (point_client _ _ _)) (ticked_still known.client outbox still);
   }

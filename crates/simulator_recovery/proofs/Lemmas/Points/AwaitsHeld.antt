@@ -2,24 +2,22 @@
 use Rattle.simulator_recovery.proofs.Words.Basics.{◌≡◌, ◌≢◌, ◌⊎◌, inl, inr, ℕ, ◌<◌, ◌==◌, Bool, true, false, List, [], Option, Some, None, slice_get, refl, sym, ap, subst, ◌∙◌, Contains, false≢true, same_Some}
 use Rattle.simulator_recovery.proofs.Words.Controllers.{Side}
 use Rattle.simulator_recovery.proofs.Words.Links.{settled, reading_of, Key}
-use Rattle.simulator_recovery.proofs.Words.Interlockings.{IsTableOf, ClientState, is_available, is_outside, is_ready, clocked, Stage, commanded_by, obeyed, refusal, set_anew, unmoved_for, At, IsAvailable, IsHeldWithAuthority, IsRouteOf, come_to, count, ended, freed_by_cancel, freed_by_passage, freeing_by_cancel, freeing_by_passage, moved, moving, moving_one, proceeding, ruled, IxlState, KnownPointState, KnownSignalState, RouteState, changed, Commands, Datagram, Input, Tick, given, stepped, ticked, StepSoFar, begun_with, empty_outbox, giving_move, Need, Row, Table, freed_sections, is_set, was_authorised, Command, Refusal, Phase, begun}
+use Rattle.simulator_recovery.proofs.Words.Interlockings.{IsTableOf, ClientState, is_available, is_outside, is_ready, clocked, Stage, commanded_by, obeyed, refusal, set_anew, unmoved_for, At, IsAvailable, IsHeldWithAuthority, IsRouteOf, come_to, count, ended, freed_by_cancel, freed_by_passage, freeing_by_cancel, freeing_by_passage, moved, moving, moving_one, proceeding, ruled, IxlState, KnownPointState, KnownSignalState, RouteState, changed, Commands, Datagram, Input, Tick, all_clocked, given, stepped, ticked, watching, StepSoFar, begun_with, empty_outbox, giving_move, over, Need, Row, Table, freed_sections, is_set, was_authorised, Command, Refusal, Phase}
 use Rattle.simulator_recovery.proofs.Words.Stations.{Site, Beginning, new_ixl, new_route_of, interlocking_stepped, key_of, WorldState, IsReached}
 use Rattle.simulator_recovery.proofs.Words.Recovery.{IsPointReady, AwaitsMove, HoldsWithAuthority, MoveLaw}
 use Rattle.simulator_spec.specs.layout.declared.ids.PointId.{PointId}
 use Rattle.simulator_recovery.proofs.Lemmas.Ground.AtLink.{mapped}
 use Rattle.simulator_recovery.proofs.Lemmas.Ground.MovedAtOnce.{held_unmoved, moved_where}
 use Rattle.simulator_recovery.proofs.Lemmas.RoutesComing.DueCourse.{at_changed}
-use Rattle.simulator_recovery.proofs.Lemmas.Ground.DueShapes.{moving_keeps, one_keeps, over_keeps, found_in, seen_in}
+use Rattle.simulator_recovery.proofs.Lemmas.Ground.DueShapes.{moving_keeps, one_keeps, over_keeps}
 use Rattle.simulator_recovery.proofs.Lemmas.Ground.IxlAlways.{always_whole}
 use Rattle.simulator_recovery.proofs.Lemmas.Ground.IxlClients.{mapped_at, point_client}
 use Rattle.simulator_recovery.proofs.Lemmas.RoutesComing.NothingDueStops.{HoldsEach, held_stays, holds_each, one_leaves}
-use Rattle.simulator_recovery.proofs.Lemmas.Points.OnceParts.{ClientsKeep, OfPoints, On, behind_moves_on, given_on, until_moves_on, found_on}
+use Rattle.simulator_recovery.proofs.Lemmas.Points.OnceParts.{ClientsKeep, OfPoints, On, behind_moves_on, clocked_on, given_on, until_moves_on}
 use Rattle.simulator_recovery.proofs.Lemmas.Points.SidesStep.{hears_nothing, stands, ticks_nothing}
 use Rattle.simulator_recovery.proofs.Lemmas.Ground.SignalParts.{PartsKeep, both_rules, cancel_held, over_held, passage_held, step_held, watched_held}
 use Rattle.simulator_recovery.proofs.Lemmas.Lamps.StopsGiven.{AnyCommand, changed_elsewhere, differs, is_equal}
 use Rattle.simulator_recovery.proofs.Lemmas.Points.UnheldPhases.{HeldNone, HoldsNone, HoldsNoneAt, NoneOrKnown, NoneOrSided, moving_none, none_held, none_or, proceeding_or, step_or, ticked_or}
-use Rattle.simulator_recovery.proofs.Lemmas.Ground.FoundIxl.{found_routes}
-use Rattle.simulator_recovery.proofs.Lemmas.Ground.FoundClients.{by_part, shut_so}
 
 -- ---- the client: it comes to await a report by a move alone
 
@@ -36,8 +34,6 @@ clocked_none now client none e = none (stands (record client { link = settled no
 none_kept : (site : Site) (now : ℕ) → ClientsKeep now AwaitsNoneAt
 none_kept site now = record {
   clock = λ known none. subst AwaitsNone (sym (point_client _ _ _)) (clocked_none now known.client none);
-  closes = λ known outbox none. subst AwaitsNone (sym (point_client _ _ _))
-      (by_part AwaitsNone now (begun known.client outbox) (λ behind e. cc (sym (shut_so now known.client).stage_is ∙ e)) (λ calm. none));
   hears = λ known side bytes outbox none. subst AwaitsNone (sym (point_client _ _ _)) (λ e. none ((hears_nothing site now 0 known.client outbox [] bytes).awaited e));
   ticks = λ known outbox none. subst AwaitsNone (sym (point_client _ _ _)) (λ e. none ((ticks_nothing site now 0 known.client outbox []).awaited e));
 }
@@ -156,10 +152,10 @@ module _ (law : MoveLaw) (site : Site) (table : Table) (holds : HoldsEach table)
 
     -- what it has done after its input, and before the rules; and then after the fourth of them
     abbrev pub heard : StepSoFar
-    heard = given now table (key_of site) input (found_in now begun_part)
+    heard = given now table (key_of site) input (record begun_part { ixl = all_clocked now begun_part.ixl })
 
     abbrev pub seen : StepSoFar
-    seen = seen_in now table heard
+    seen = over (watching table) (count table) heard
 
     abbrev pub freed : StepSoFar
     freed = freed_by_cancel now table seen
@@ -184,18 +180,18 @@ module _ (law : MoveLaw) (site : Site) (table : Table) (holds : HoldsEach table)
     others_quiet number own part differ is known there = is known (sym ((one_leaves now table k law holds number own part).points need.point differ) ∙ there)
 
     step_quiet : NoneOrQuiet world.interlocking.ixl → At world.interlocking.ixl.routes k (λ route. Unit {0}) → NoneOrQuiet (interlocking_stepped site table input world).interlocking.ixl
-    unfolding interlocking_stepped stepped
+    unfolding interlocking_stepped stepped all_clocked
     step_quiet (inl none) there = sided_quiet (interlocking_stepped site table input world).interlocking.ixl (step_or site table k row row_there need within input world none)
     step_quiet (inr quiet) there = by_world (none_or need.until (holds k row need row_there within) there.0.phase)
       where
         -- the route holds the point with authority, so no command moves it
-        unmoved : Holding there.0 → (moved : PointId) (side : Side) → moved.0 ≡ need.point → refusal now table (Command.Move moved side) (found_in now begun_part).ixl ≡ None → ⊥
-        unmoved holding = held_unmoved now table (found_in now begun_part).ixl k row there.0 need row_there (ap (λ (routes : List RouteState). slice_get routes k) (found_routes now begun_part) ∙ there.1) within holding.1 holding.2
+        unmoved : Holding there.0 → (moved : PointId) (side : Side) → moved.0 ≡ need.point → refusal now table (Command.Move moved side) (all_clocked now world.interlocking.ixl) ≡ None → ⊥
+        unmoved holding = held_unmoved now table (all_clocked now world.interlocking.ixl) k row there.0 need row_there there.1 within holding.1 holding.2
 
         still : Holding there.0 → On need.point AwaitsNoneAt freed
         still holding = until_moves_on now need.point AwaitsNoneAt (none_kept site now) table heard
-            (given_quiet site now need.point table (key_of site) input (found_in now begun_part) (λ moved side is same none. unmoved holding moved side same none)
-            (found_on now need.point AwaitsNoneAt (none_kept site now) begun_part quiet))
+            (given_quiet site now need.point table (key_of site) input (record begun_part { ixl = all_clocked now begun_part.ixl }) (λ moved side is same none. unmoved holding moved side same none)
+            (clocked_on now need.point AwaitsNoneAt (none_kept site now) begun_part quiet))
 
         by_phase : On need.point AwaitsNoneAt freed → At freed.ixl.routes k (λ route. HoldsNone need.until route.phase) ⊎ At freed.ixl.routes k Holding → NoneOrQuiet (ticked now input (ruled now table seen)).ixl
         by_phase quietly (inl none) = sided_quiet (ticked now input (ruled now table seen)).ixl (ticked_or site table k row row_there need within now input (ruled now table seen)

@@ -1,14 +1,13 @@
 -- What a step does to a point whose contact doesn't tell: each report that it gives tells the side of its move.
 use Rattle.simulator_recovery.proofs.Words.Basics.{◌≡◌, ◌⊎◌, inl, inr, ℕ, ◌∙◌, not, nat_le, Bool, true, false, if◌then◌else◌, List, [], ◌∷◌, ◌++◌, map, Option, Some, None, is_some, refl, sym, ap, subst, false≢true, and_right}
 use Rattle.simulator_recovery.proofs.Words.Links.{settled, is_open}
-use Rattle.simulator_recovery.proofs.Words.Controllers.{IsPointStep, found_by, moved_by, moves_in, stage_by, Message, PointPosition, Position, Side, Telegram, HostSoFar, HostState, is_completed, is_outside, items_given, Keeps, Loses, ObjectCall, Pays, Senses, Takes, Ticks, contacts_in, object_after_all, reports_paid, telegrams_in, host_step, AllFit, AreComing, contacts_of, item_of, Input, Report, point_behaviour, PointState, begun, commanded_by, drive_end, is_answered, is_at, limited, move_in, move_taken, own_report, position_report, taking, ticking, one_more, Progress, found as found_in}
+use Rattle.simulator_recovery.proofs.Words.Controllers.{IsPointStep, found_by, moved_by, moves_in, stage_by, Message, PointPosition, Position, Side, Telegram, HostSoFar, HostState, is_completed, is_outside, items_given, Keeps, Loses, ObjectCall, Pays, Senses, Takes, Ticks, contacts_in, object_after_all, reports_paid, telegrams_in, beginning, host_step, AllFit, AreComing, contacts_of, item_of, Input, Report, point_behaviour, PointState, begun, commanded_by, drive_end, is_answered, is_at, limited, move_in, move_taken, own_report, position_report, taking, ticking, one_more, Progress}
 use Rattle.simulator_recovery.proofs.Words.Stations.{position_of}
 use Rattle.simulator_recovery.proofs.Words.Recovery.{MakesStep}
 use Rattle.simulator_recovery.proofs.Lemmas.Points.MovesArrive.{none_comes, pays_arrived, pays_driving, pays_nothing}
 use Rattle.simulator_recovery.proofs.Lemmas.Points.MovesOwed.{object_behind}
 use Rattle.simulator_recovery.proofs.Lemmas.Points.MovesReported.{at_its_side}
 use Rattle.simulator_recovery.proofs.Lemmas.Talk.PointCounts.{begins_so}
-use Rattle.simulator_recovery.proofs.Lemmas.Ground.FoundHosts.{IsCalm, calm_keeps, found_calm, open_calm}
 
 -- the report of a controller that its point lies at a side
 abbrev pub report_of : HostState PointState → Side → List ℕ
@@ -71,14 +70,11 @@ module _ (makes : MakesStep) (now : ℕ) (input : Input) (host : HostState Point
   abbrev found : PointState
   found = found_by now host
 
-  calm : IsCalm point_behaviour now host
-  calm = open_calm point_behaviour now input host opened
-
   found_is : found ≡ ticking now host.object
-  found_is = step.stays (and_right (not (is_outside host.stage)) (not (is_open (settled now host.link).phase)) (ap not was_open)) (calm_keeps point_behaviour now host calm)
+  found_is = step.stays (and_right (not (is_outside host.stage)) (not (is_open (settled now host.link).phase)) (ap not was_open))
 
-  stage_is : is_completed (found_in point_behaviour now host).host.stage ≡ true
-  stage_is = ap is_completed (ap (λ (first : HostSoFar PointState). first.host.stage) (found_calm point_behaviour now host calm) ∙ ((begins_so now host).inside was_open).0) ∙ completed
+  stage_is : is_completed (beginning point_behaviour now host).stage ≡ true
+  stage_is = ap is_completed ((begins_so now host).inside was_open).0 ∙ completed
 
   stage_then : is_completed (stage_by now input host) ≡ true
   stage_then = step.tells.completed stage_is

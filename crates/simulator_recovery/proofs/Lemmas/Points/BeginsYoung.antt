@@ -1,7 +1,7 @@
 -- A drive that is found after good rounds began in one of the last of them: so it is far from its limit.
 use Rattle.simulator_recovery.proofs.Words.Basics.{◌≡◌, ◌⊎◌, inl, inr, ℕ, zero, suc, ◌∙◌, ◌+◌, ◌*◌, ◌≤◌, ◌<◌, nat_le, Bool, true, false, List, [], ◌∷◌, ◌++◌, length, replicate, Option, Some, None, slice_get, refl, sym, ap, subst, arith, leb-true, leb-false, drop, none-some, same_Some}
 use Rattle.simulator_recovery.proofs.Words.Links.{settled, Each, reading_of, LinkState, is_open}
-use Rattle.simulator_recovery.proofs.Words.Controllers.{IsPointStep, Side, HostState, is_completed, host_step, Input, point_behaviour, PointState, unanswered, Progress, HostSoFar}
+use Rattle.simulator_recovery.proofs.Words.Controllers.{IsPointStep, Side, HostState, is_completed, host_step, Input, point_behaviour, PointState, unanswered, Progress}
 use Rattle.simulator_recovery.proofs.Words.Interlockings.{IsTableOf, SitedTable}
 use Rattle.simulator_recovery.proofs.Words.Stations.{Once, IsStation, Event, Refused, controller_after, controller_later, step_of, Flowing, did, round, round_of_time, all_later, happens, passed, nodes, ClockedControllerState, Played, after, refusal_of, world_where}
 use Rattle.simulator_recovery.proofs.Words.Recovery.{behind_time, IsDriven, IsDrivenBehind, IsWork, all_tried, good_rounds, LawsBelow, MakesStep}
@@ -14,7 +14,6 @@ use Rattle.simulator_recovery.proofs.Lemmas.Points.MovesReported.{timed_clock, t
 use Rattle.simulator_recovery.proofs.Lemmas.Points.MovesRound.{driven_there, left_behind, left_drives, tried_still_holds}
 use Rattle.simulator_recovery.proofs.Lemmas.Talk.PointCounts.{begins_so}
 use Rattle.simulator_recovery.proofs.Lemmas.Rounds.Rounds.{IsAt, behind_calm, calm_keeps, round_state, rounds_reached, tried_reached, work_calm}
-use Rattle.simulator_recovery.proofs.Lemmas.Ground.FoundHosts.{closed_calm, found_calm}
 
 -- ---- a controller in a round
 
@@ -46,9 +45,8 @@ module _ (makes : MakesStep) (Was : Side → ℕ → Type 0) (clock : ℕ) where
       by_open true e = step_new Was (reading_of c.clock) input c.host step
           (subst (λ (n : ℕ). IsNew Was (reading_of n) c.host.object.progress) (sym here.at) (here.young (subst (λ (n : ℕ). is_open (settled (reading_of n) c.host.link).phase ≡ true) here.at e)))
       by_open false e = found_new Was (reading_of c.clock) input c.host step
-          (subst (λ (first : HostSoFar PointState). IsNew Was (reading_of c.clock) first.host.object.progress) (sym (found_calm point_behaviour (reading_of c.clock) c.host (closed_calm point_behaviour (reading_of c.clock) c.host e)))
           (λ side since f. let none = ((begins_so (reading_of c.clock) c.host).outside e (λ early. ap unanswered (here.idle early))).1 in let waits = ap unanswered f in absurd
-          (omega (arith, none, waits))))
+          (omega (arith, none, waits)))
 
   module _ (place : ℕ) where
     abbrev pub AreYoung : Played → Type 0

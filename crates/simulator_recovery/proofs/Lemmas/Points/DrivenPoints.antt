@@ -1,14 +1,13 @@
 -- After how many good rounds, one after another, a point is found driven to one side.
 use Rattle.simulator_recovery.proofs.Words.Basics.{◌≡◌, ℕ, zero, suc, ◌∙◌, ◌+◌, ◌-◌, ◌≤◌, ◌<◌, nat_le, nat_lt, not, ◌&&◌, Bool, true, false, if◌then◌else◌, List, [], ◌∷◌, ◌++◌, length, Option, Some, None, is_ok, slice_get, slice_set, refl, sym, ap, subst, arith, ltb-true, ltb-false, false≢true, nat_tests, none-some, same_Some}
 use Rattle.simulator_recovery.proofs.Words.Links.{answer_to_send, Each, reading_of, is_open}
-use Rattle.simulator_recovery.proofs.Words.Controllers.{Position, Side, HostSoFar, HostState, fallen, is_completed, is_outside, keeping, silent, then_do, beating, ending, given as given_in, goes_on, host_step, most_owed, paid, paying, paying_first, posting, Input, Report, Sense, Stage, point_behaviour, PointState, answered, drive_end, driven, drives, is_at, limited, move_in, reached, Progress, after_refusal, found, going_on}
+use Rattle.simulator_recovery.proofs.Words.Controllers.{Position, Side, HostSoFar, HostState, fallen, is_completed, is_outside, keeping, silent, then_do, beating, beginning, ending, given as given_in, goes_on, host_step, most_owed, paid, paying, paying_first, posting, Input, Report, Sense, Stage, point_behaviour, PointState, answered, drive_end, driven, drives, is_at, limited, move_in, reached, Progress}
 use Rattle.simulator_recovery.proofs.Words.Interlockings.{Table, is_same_side}
 use Rattle.simulator_recovery.proofs.Words.Stations.{Site, PointId, Event, Refused, FoundDriven, RoundEvent, controller_after, step_of, Flowing, all_did, deliveries, did, due, next_drive, next_drives, position_of, reach, reaches, round, round_of_time, ticks, Stepped, detector_stepped, happens, interlocking_stepped, point_stepped, sensed_by, stepped_at, nodes, point_link, driven_at, driven_by, may_reach, refusal, refused_where, ClockedControllerState, WorldState, Played, after, arrival_in, world_where, driven as found_driven}
 use Rattle.simulator_recovery.proofs.Words.Recovery.{IsDriven, IsDrivenBehind, IsWork, all_tried}
 use Rattle.simulator_spec.specs.point_ctl.Drive.{losing}
 use Rattle.simulator_recovery.proofs.Lemmas.Ground.EndCalls.{at_place, set_own}
 use Rattle.simulator_recovery.proofs.Lemmas.Rounds.Rounds.{tried_keeps}
-use Rattle.simulator_recovery.proofs.Lemmas.Ground.FoundHosts.{refused_object}
 
 -- ---- a drive in a step
 
@@ -32,10 +31,10 @@ module _ (now : ℕ) (side : Side) (since : ℕ) where
       sent : HostSoFar PointState
       sent = posting now report host
 
-      choose : (b c : Bool) → Drives (if not b then silent (paid point_behaviour host) else (if c then record sent { host = paid point_behaviour sent.host } else then_do sent (after_refusal point_behaviour now (answer_to_send now host.link)))).host → Drives host
+      choose : (b c : Bool) → Drives (if not b then silent (paid point_behaviour host) else (if c then record sent { host = paid point_behaviour sent.host } else sent)).host → Drives host
       choose false c f = answered_drive host.object.progress side since f
       choose true true f = answered_drive host.object.progress side since f
-      choose true false f = ap (λ (p : PointState). p.progress) (sym (refused_object point_behaviour now (answer_to_send now host.link) sent.host)) ∙ f
+      choose true false f = f
 
   pub pays : (most : ℕ) (host : HostState PointState) → Drives (paying point_behaviour now most host).host → Drives host
   unfolding paying
@@ -51,7 +50,7 @@ module _ (now : ℕ) (side : Side) (since : ℕ) where
       choose false more one f = one f
 
   -- nor does the end of a step
-  pub ends : (host : HostState PointState) → Drives (ending point_behaviour now host) → Drives host
+  pub ends : (host : HostState PointState) → Drives (ending point_behaviour host) → Drives host
   unfolding fallen keeping
   ends host e = choose (not (is_outside host.stage) && not (is_open host.link.phase)) e
     where
@@ -75,11 +74,11 @@ module _ (now : ℕ) (side : Side) (since : ℕ) where
 
   -- where the contact tells a side, the point isn't driven there after the step
   pub senses_not : (position : Position) (host : HostState PointState) → Drives (host_step point_behaviour now (Input.Sense (Sense.Position position)) host).host → is_at side position ≡ false
-  unfolding host_step going_on given_in beating
-  senses_not position host e = reaches_not position (limited now (found point_behaviour now host).host.object.progress) (pays most_owed heard (ends told e))
+  unfolding host_step given_in beating
+  senses_not position host e = reaches_not position (limited now (beginning point_behaviour now host).object.progress) (pays most_owed heard (ends told e))
     where
       first : HostState PointState
-      first = (found point_behaviour now host).host
+      first = beginning point_behaviour now host
 
       heard : HostState PointState
       heard = record first { object = point_behaviour.after_sense now (Sense.Position position) first.object }

@@ -2,18 +2,16 @@
 use Rattle.simulator_recovery.proofs.Words.Basics.{◌≡◌, ◌≢◌, ◌⊎◌, inl, inr, ℕ, ◌∙◌, false, List, ◌++◌, map, Option, Some, None, slice_get, refl, sym, ap, subst}
 use Rattle.simulator_recovery.proofs.Words.Links.{OutboxState, reading, Key}
 use Rattle.simulator_recovery.proofs.Words.Controllers.{Aspect, Side}
-use Rattle.simulator_recovery.proofs.Words.Interlockings.{ClientState, ClientSoFar, LinkCall, begun, commanding, hearing, ticking, Indicate, Move, commanded_by, obeyed, refusal, unmoved_for, count, freed_by_cancel, is_proceed_due, is_stop_due, moved, proceeding, ruled, withdrawing, KnownPointState, changed, Commands, Datagram, Input, Tick, addressed, detector_hearing, detector_ticking, given, known_point_hearing, known_point_ticking, known_signal_hearing, known_signal_ticking, looking, looks, node_hearing, occupied_heard, ticked, Detector, Node, Point, Signal, StepSoFar, detector_after, giving_aspect, giving_move, noted, with_detector, with_one, Table, is_signal_ready, Command, Refusal, all_clocked, closing_behind, known_signal_closing, known_point_closing, detector_closing}
+use Rattle.simulator_recovery.proofs.Words.Interlockings.{ClientState, ClientSoFar, LinkCall, begun, commanding, hearing, ticking, Indicate, Move, commanded_by, obeyed, refusal, unmoved_for, count, freed_by_cancel, is_proceed_due, is_stop_due, moved, proceeding, ruled, withdrawing, KnownPointState, changed, Commands, Datagram, Input, Tick, addressed, detector_hearing, detector_ticking, given, known_point_hearing, known_point_ticking, known_signal_hearing, known_signal_ticking, looking, looks, node_hearing, occupied_heard, ticked, watching, Detector, Node, Point, Signal, StepSoFar, detector_after, giving_aspect, giving_move, noted, over, with_detector, with_one, Table, is_signal_ready, Command, Refusal}
 use Rattle.simulator_spec.specs.layout.declared.ids.PointId.{PointId}
 use Rattle.simulator_recovery.proofs.Lemmas.Ground.MovedAtOnce.{moved_where}
-use Rattle.simulator_recovery.proofs.Lemmas.Ground.DueShapes.{along_keeps, looking_turns, one_keeps, over_keeps, route_keeps, ticked_keeps, until_freed, where_keeps, closing_keeps, found_in, seen_in}
+use Rattle.simulator_recovery.proofs.Lemmas.Ground.DueShapes.{along_keeps, looking_turns, one_keeps, over_keeps, route_keeps, ticked_keeps, until_freed, where_keeps}
 use Rattle.simulator_recovery.proofs.Lemmas.Ground.IxlClients.{mapped_at, point_client}
 use Rattle.simulator_recovery.proofs.Lemmas.Ground.IxlSoFar.{at_itself, at_node, at_other, is_node, other_place, set_at}
 
 module _ (now point : ℕ) (F : ClientState → List LinkCall → Type 0)
     (hears : (client : ClientState) (outbox : OutboxState) (bytes : List ℕ) (calls : List LinkCall) → F client calls
     → F (hearing now bytes (begun client outbox)).client (calls ++ (hearing now bytes (begun client outbox)).calls))
-    (closes : (client : ClientState) (outbox : OutboxState) (calls : List LinkCall) → F client calls
-    → F (closing_behind now (begun client outbox)).client (calls ++ (closing_behind now (begun client outbox)).calls))
     (ticks : (client : ClientState) (outbox : OutboxState) (calls : List LinkCall) → F client calls
     → F (ticking now (begun client outbox)).client (calls ++ (ticking now (begun client outbox)).calls)) where
   abbrev pub On : StepSoFar → Type 0
@@ -38,26 +36,6 @@ module _ (now point : ℕ) (F : ClientState → List LinkCall → Type 0)
   there_too : (place : ℕ) (part : StepSoFar) (known : KnownPointState) → slice_get part.ixl.known_points place ≡ Some known → On part → point ≡ place
       → F known.client (at_node (Point point) part.calls)
   there_too place part known e is same = is known (ap (slice_get part.ixl.known_points) same ∙ e)
-
-  -- ---- links that aren't caught up any more are closed
-
-  signal_closes_on : (place : ℕ) (part : StepSoFar) → On part → On (known_signal_closing now place part)
-  unfolding known_signal_closing
-  signal_closes_on place part is = one_keeps On (slice_get part.ixl.known_signals place) _ part (λ known e. elsewhere (Signal place) (closing_behind now (begun known.client part.outbox)) part refl is) is
-
-  point_closes_on : (place : ℕ) (part : StepSoFar) → On part → On (known_point_closing now place part)
-  unfolding known_point_closing
-  point_closes_on place part is = one_keeps On (slice_get part.ixl.known_points place) _ part (λ known e.
-      here place _ (closing_behind now (begun known.client part.outbox)) part (λ same.
-      subst (λ (c : ClientState). F c (at_node (Point point) part.calls ++ (closing_behind now (begun known.client part.outbox)).calls)) (sym (point_client _ _ _))
-      (closes known.client part.outbox (at_node (Point point) part.calls) (there_too place part known e is same))) is) is
-
-  detector_closes_on : (place : ℕ) (part : StepSoFar) → On part → On (detector_closing now place part)
-  unfolding detector_closing
-  detector_closes_on place part is = one_keeps On (slice_get part.ixl.detectors place) _ part (λ known e. elsewhere (Detector place) (closing_behind now (begun known.client part.outbox)) part refl is) is
-
-  pub found_on : (part : StepSoFar) → On (record part { ixl = all_clocked now part.ixl }) → On (found_in now part)
-  found_on part is = closing_keeps On now signal_closes_on point_closes_on detector_closes_on (record part { ixl = all_clocked now part.ixl }) is
 
   -- where it is kept as the point is given a move
   pub move_on : (place : ℕ) (to : Side) (part : StepSoFar)
@@ -129,7 +107,7 @@ module _ (now point : ℕ) (F : ClientState → List LinkCall → Type 0)
   withdrawing_on table number part is = route_keeps On table number _ part (λ row one there at. where_keeps On (is_stop_due table part.ixl row one) part _
       (λ due. where_keeps On (is_signal_ready part.ixl row.entry) _ _ (λ ready. aspect_on row.entry Aspect.Stop _ is) is) is) is
 
-  pub until_moves_on : (table : Table) (part : StepSoFar) → On part → On (freed_by_cancel now table (seen_in now table part))
+  pub until_moves_on : (table : Table) (part : StepSoFar) → On part → On (freed_by_cancel now table (over (watching table) (count table) part))
   until_moves_on table = until_freed On now table (λ number change part is. is) (withdrawing_on table)
 
   proceeding_on : (table : Table) (number : ℕ) (part : StepSoFar) → On part → On (proceeding now table number part)

@@ -1,8 +1,8 @@
 -- What a client gives of its own commands no move: the check of its version, and the request for the initialisation.
 use Rattle.simulator_recovery.proofs.Words.Basics.{◌≡◌, ℕ, ◌∙◌, Bool, true, false, List, [], ◌∷◌, ◌++◌, map, ◌&&◌, if◌then◌else◌, refl, sym, ap, subst, ◌⊎◌, inl, inr, append-nil, append_assoc}
-use Rattle.simulator_recovery.proofs.Words.Links.{receiving, OutboxState, is_open, is_up, all_made, Reason, opens, LinkState, made_by}
+use Rattle.simulator_recovery.proofs.Words.Links.{receiving, OutboxState, is_open, is_up, all_made, Reason, opens, LinkState}
 use Rattle.simulator_recovery.proofs.Words.Controllers.{writing, InitialisationRequest, VersionCheck, Message, reading, IsMessage, Initialisation}
-use Rattle.simulator_recovery.proofs.Words.Interlockings.{ClientState, PeerState, is_outside, ClientSoFar, Closes, LinkCall, Receives, as_call, begun, calling, item_of, acted_on, acting, acting_all, at_stage, posting, rising, saying, telegram_to, Stage, Signal, Opens, Ticks, hearing, ticking, closing_behind}
+use Rattle.simulator_recovery.proofs.Words.Interlockings.{ClientState, PeerState, is_outside, ClientSoFar, Closes, LinkCall, Receives, as_call, begun, calling, item_of, acted_on, acting, acting_all, at_stage, posting, rising, saying, telegram_to, Stage, Signal, Opens, Ticks, hearing, ticking}
 use Rattle.simulator_recovery.proofs.Words.Stations.{Site, IsPeer}
 use Rattle.simulator_recovery.proofs.Words.Machine.{given_after, taken_after, Side as MachineSide, all_said, moves_in, moves_of, said_by}
 use Rattle.simulator_recovery.proofs.Words.Recovery.{WrittenIsRead}
@@ -13,7 +13,6 @@ use Rattle.simulator_recovery.proofs.Lemmas.Ground.ClientBehind.{all_gave_behind
 use Rattle.simulator_recovery.proofs.Lemmas.Talk.ClientLinks.{hearing_peer, ticking_peer}
 use Rattle.simulator_recovery.proofs.Lemmas.Ground.EndCalls.{map_both}
 use Rattle.simulator_recovery.proofs.Lemmas.Talk.StationTalk.{fallen_link}
-use Rattle.simulator_recovery.proofs.Lemmas.Ground.FoundClients.{by_calls, closing_peer, shut_link}
 
 -- ---- what is so of a client's stage, with what the client has given, is kept as it hears a datagram
 
@@ -191,11 +190,6 @@ module _ (site : Site) (now connection : ℕ) (client : ClientState) (outbox : O
       (λ old gave same. (same, with_item gave (item_of client.peer InitialisationRequest) asks_so.request same)) bytes refl
       in record { link_is = fallen_link part.client ∙ h.tracks.link_is; none = inl (ap moves_in h.tracks.gave ∙ h.way) }
 
-  closes_no_move : GivesNoMove now connection given client (closing_behind now (begun client outbox)).client (closing_behind now (begun client outbox)).calls
-  unfolding all_made given_after made_by
-  closes_no_move = by_calls (λ (c : ClientState) (calls : List LinkCall). GivesNoMove now connection given client c calls) now client outbox []
-      (λ behind. record { link_is = shut_link now client; none = inl refl }) (λ calm. record { link_is = refl; none = inl refl })
-
   ticks_no_move : GivesNoMove now connection given client (ticking now (begun client outbox)).client (ticking now (begun client outbox)).calls
   unfolding ticking calling all_said
   ticks_no_move = by_opened (opens now ticked.client.link) tracks
@@ -246,11 +240,6 @@ module _ (site : Site) (now connection : ℕ) (peer : PeerState) (asks_so : Asks
       → GaveNoMove (hearing now bytes (begun client outbox)).client (calls ++ (hearing now bytes (begun client outbox)).calls)
   hears_none client outbox bytes calls g = more_calls client (hearing now bytes (begun client outbox)).client calls (hearing now bytes (begun client outbox)).calls
       (hearing_peer now bytes (begun client outbox)) g (hears_no_move site now connection client outbox (gave_by calls) (subst AsksOnly (sym g.peer_is) asks_so) bytes)
-
-  pub closes_none : (client : ClientState) (outbox : OutboxState) (calls : List LinkCall) → GaveNoMove client calls
-      → GaveNoMove (closing_behind now (begun client outbox)).client (calls ++ (closing_behind now (begun client outbox)).calls)
-  closes_none client outbox calls g = more_calls client (closing_behind now (begun client outbox)).client calls (closing_behind now (begun client outbox)).calls
-      (closing_peer now (begun client outbox)) g (closes_no_move site now connection client outbox (gave_by calls) (subst AsksOnly (sym g.peer_is) asks_so))
 
   pub ticks_none : (client : ClientState) (outbox : OutboxState) (calls : List LinkCall) → GaveNoMove client calls
       → GaveNoMove (ticking now (begun client outbox)).client (calls ++ (ticking now (begun client outbox)).calls)

@@ -1,7 +1,7 @@
 -- A route whose authority has ended holds a point after an event: then it held it with authority before, and the event gave the point no move.
 use Rattle.simulator_recovery.proofs.Words.Basics.{◌≡◌, ◌≢◌, ◌⊎◌, inl, inr, ℕ, ◌<◌, List, [], ◌++◌, length, Some, None, slice_get, refl, sym, ap, subst, ◌∙◌, Contains, same_Some}
 use Rattle.simulator_recovery.proofs.Words.Links.{settled, Receives, reading_of, Links, MayCallOn, run_links, OutboxState, LinkState, all_made}
-use Rattle.simulator_recovery.proofs.Words.Interlockings.{IsTableOf, ClientState, PeerState, LinkCall, begun, clocked, hearing, ticking, At, authorised, count, is_move_due, is_proceed_due, moved, moving, moving_one, proceeding, ruled, IxlState, KnownPointState, RouteState, Input, all_clocked, clocked_known_point, stepped, ticked, Point, StepSoFar, begun_with, empty_outbox, with_route, Need, Row, Table, freed_sections, was_authorised, Phase, closing_behind}
+use Rattle.simulator_recovery.proofs.Words.Interlockings.{IsTableOf, ClientState, PeerState, LinkCall, begun, clocked, hearing, ticking, At, authorised, count, is_move_due, is_proceed_due, moved, moving, moving_one, proceeding, ruled, IxlState, KnownPointState, RouteState, Input, all_clocked, clocked_known_point, stepped, ticked, Point, StepSoFar, begun_with, empty_outbox, with_route, Need, Row, Table, freed_sections, was_authorised, Phase}
 use Rattle.simulator_recovery.proofs.Words.Stations.{Site, Event, Deliver, NodeId, Beginning, new_ixl, new_route_of, happens, interlocking_stepped, interlocking_step, AreLinksOf, names_at, connection_of, copy_of, key_of, point_link, refusal, WorldState, events_of, interlocking_events, client_states}
 use Rattle.simulator_recovery.proofs.Words.Machine.{given_after}
 use Rattle.simulator_recovery.proofs.Words.Recovery.{LawsBelow, MoveLaw, WrittenIsRead}
@@ -12,10 +12,10 @@ use Rattle.simulator_recovery.proofs.Lemmas.Points.AwaitsHeld.{Holding, freed, h
 use Rattle.simulator_recovery.proofs.Lemmas.Talk.ClientLinks.{clocked_peer}
 use Rattle.simulator_recovery.proofs.Lemmas.RoutesComing.DueCourse.{at_changed}
 use Rattle.simulator_recovery.proofs.Lemmas.Ground.IxlAlways.{event_then}
-use Rattle.simulator_recovery.proofs.Lemmas.Ground.DueShapes.{over_keeps, route_keeps, where_keeps, found_in}
+use Rattle.simulator_recovery.proofs.Lemmas.Ground.DueShapes.{over_keeps, route_keeps, where_keeps}
 use Rattle.simulator_recovery.proofs.Lemmas.RoutesComing.DueKnown.{ticks_bring_nothing}
-use Rattle.simulator_recovery.proofs.Lemmas.Points.EndedCalls.{On, behind_moves_on, given_on, move_on, until_moves_on, found_on}
-use Rattle.simulator_recovery.proofs.Lemmas.Points.EndedClient.{AddsNoMove, AsksOnly, GaveNoMove, asks_only, hears_none, ticks_none, closes_none}
+use Rattle.simulator_recovery.proofs.Lemmas.Points.EndedCalls.{On, behind_moves_on, given_on, move_on, until_moves_on}
+use Rattle.simulator_recovery.proofs.Lemmas.Points.EndedClient.{AddsNoMove, AsksOnly, GaveNoMove, asks_only, hears_none, ticks_none}
 use Rattle.simulator_recovery.proofs.Lemmas.Ground.IxlClients.{mapped_at, point_client}
 use Rattle.simulator_recovery.proofs.Lemmas.Ground.IxlSoFar.{at_node}
 use Rattle.simulator_recovery.proofs.Lemmas.RoutesComing.NothingDueProceeds.{aspect_leaves}
@@ -23,7 +23,6 @@ use Rattle.simulator_recovery.proofs.Lemmas.RoutesComing.NothingDueStops.{HoldsE
 use Rattle.simulator_recovery.proofs.Lemmas.RoutesComing.RoutesCome.{point_there}
 use Rattle.simulator_recovery.proofs.Lemmas.Talk.StationTalk.{Before, SameLists, Talking, before, clocked_link, gave, gave_behind_step}
 use Rattle.simulator_recovery.proofs.Lemmas.Points.UnheldPhases.{HeldNone, HoldsNone, HoldsNoneAt, moving_none, none_held, seen_none, until_moved, none_or}
-use Rattle.simulator_recovery.proofs.Lemmas.Ground.FoundIxl.{found_routes}
 
 -- The authority of a route has ended, and the route still holds the point.
 pub record EndedHolds (need : Need) (route : RouteState) : Type 0 where
@@ -129,19 +128,12 @@ module _ (site : Site) (table : Table) (k : ℕ) (row : Row) (row_there : slice_
           → Gave (hearing at bytes (begun client outbox)).client (calls ++ (hearing at bytes (begun client outbox)).calls)
       hears_so = hears_none site at connection peer asks_so own_link (gave network link)
 
-      closes_so : (client : ClientState) (outbox : OutboxState) (calls : List LinkCall) → Gave client calls
-          → Gave (closing_behind at (begun client outbox)).client (calls ++ (closing_behind at (begun client outbox)).calls)
-      closes_so = closes_none site at connection peer asks_so own_link (gave network link)
-
       ticks_so : (client : ClientState) (outbox : OutboxState) (calls : List LinkCall) → Gave client calls
           → Gave (ticking at (begun client outbox)).client (calls ++ (ticking at (begun client outbox)).calls)
       ticks_so = ticks_none site at connection peer asks_so own_link (gave network link)
 
       abbrev OnCalls : StepSoFar → Type 0
-      OnCalls = On at need.point Gave hears_so closes_so ticks_so
-
-      abbrev begins : StepSoFar
-      begins = begun_with world.interlocking.ixl empty_outbox
+      OnCalls = On at need.point Gave hears_so ticks_so
 
       abbrev heard_part : StepSoFar
       heard_part = heard law site table holds k row row_there need within input world
@@ -174,18 +166,17 @@ module _ (site : Site) (table : Table) (k : ℕ) (row : Row) (row_there : slice_
 
       -- a point that the route holds with authority is moved by no command
       freed_on : Holding law site table holds k row row_there need within there.0 → OnCalls freed_part
-      freed_on holding = until_moves_on at need.point Gave hears_so closes_so ticks_so table heard_part
-          (given_on at need.point Gave hears_so closes_so ticks_so table (key_of site) input
-          (found_in at begins)
-          (λ place to part is none on. move_on at need.point Gave hears_so closes_so ticks_so place.0 to part
-          (λ known same. absurd (held_unmoved at table (found_in at begins).ixl k row there.0 need row_there
-          (ap (λ (routes : List RouteState). slice_get routes k) (found_routes at begins) ∙ there.1) within holding.1 holding.2 place to (sym same) none)) on)
-          (found_on at need.point Gave hears_so closes_so ticks_so begins clocked_on))
+      unfolding all_clocked
+      freed_on holding = until_moves_on at need.point Gave hears_so ticks_so table heard_part
+          (given_on at need.point Gave hears_so ticks_so table (key_of site) input
+          (record (begun_with world.interlocking.ixl empty_outbox) { ixl = all_clocked at world.interlocking.ixl })
+          (λ place to part is none on. move_on at need.point Gave hears_so ticks_so place.0 to part
+          (λ known same. absurd (held_unmoved at table (all_clocked at world.interlocking.ixl) k row there.0 need row_there there.1 within holding.1 holding.2 place to (sym same) none)) on) clocked_on)
 
       others_on : (number : ℕ) (own : Need) (part : StepSoFar) → need.point ≢ own.point → OnCalls part → OnCalls (moving_one at table number own part)
       unfolding moving_one
       others_on number own part differ is = route_keeps OnCalls table number _ part (λ other one found here. where_keeps OnCalls (is_move_due table part.ixl number one own) part _
-          (λ due. move_on at need.point Gave hears_so closes_so ticks_so own.point own.side part (λ known same. absurd (differ same)) is) is) is
+          (λ due. move_on at need.point Gave hears_so ticks_so own.point own.side part (λ known same. absurd (differ same)) is) is) is
 
       done_on : EndedAt done.ixl → OnCalls done
       unfolding stepped
@@ -195,7 +186,7 @@ module _ (site : Site) (table : Table) (k : ℕ) (row : Row) (row_there : slice_
               → OnCalls (ticked at input (ruled at table seen_part))
           by_phase so (inl none) = absurd (none_yet (ticked at input (ruled at table seen_part)).ixl (behind_moves at table k need.until input seen_part
               (over_keeps (HeldNone at table k need.until) (moving at table) (moving_none at table k need.until) (count table) freed_part none)) ended)
-          by_phase so (inr holding) = behind_moves_on at need.point Gave hears_so closes_so ticks_so table input seen_part
+          by_phase so (inr holding) = behind_moves_on at need.point Gave hears_so ticks_so table input seen_part
               (moved_so law site table holds k row row_there need within at OnCalls others_on seen_part holding so)
 
           by_world : HoldsNone need.until there.0.phase ⊎ Holding law site table holds k row row_there need within there.0 → OnCalls (ticked at input (ruled at table seen_part))

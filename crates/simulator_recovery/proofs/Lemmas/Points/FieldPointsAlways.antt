@@ -92,7 +92,7 @@ module _ (expected : LawsBelow) (owed : LawsBelow) (site : Site) (table : Table)
       (is place c entry (ap (λ (all : List (ClockedControllerState PointState)). slice_get all place) (sym points) ∙ e) f)
 
   new_stands : (begins : Beginning) (position : Position) (entry : PointEntry) (lists : Lists) → Stand (new_point site begins position entry) lists
-  new_stands begins position entry lists opened few = absurd (false≢true (sym (new_closed point_behaviour _ _ _ _ _ _ _ _) ∙ opened))
+  new_stands begins position entry lists opened few = absurd (false≢true (sym (new_closed point_behaviour _ _ _ _ _ _ _) ∙ opened))
 
   one_anew : (begins : Beginning) (position : Position) (at : ℕ) (other : PointEntry) (world : WorldState) (network : Links) → Standing world network → (place : ℕ)
       (c : ClockedControllerState PointState) (entry : PointEntry)

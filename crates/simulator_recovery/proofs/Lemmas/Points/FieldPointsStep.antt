@@ -19,7 +19,6 @@ use Rattle.simulator_recovery.proofs.Lemmas.Talk.AlwaysTold as tells
 use Rattle.simulator_recovery.proofs.Lemmas.Ground.LinkCounts.{settled_open}
 use Rattle.simulator_recovery.proofs.Lemmas.Ground.EndCalls.{each_both}
 use Rattle.simulator_recovery.proofs.Lemmas.Talk.PointCounts.{waits, within_ever}
-use Rattle.simulator_recovery.proofs.Lemmas.Ground.FoundHosts.{open_calm}
 
 -- ---- what a point's controller owes, after every list of events of a station
 
@@ -37,7 +36,7 @@ made_owes site begins position entry lists = record {
 }
   where
     closed : is_open (new_point site begins position entry).link.phase ≡ false
-    closed = new_closed point_behaviour _ _ _ _ _ _ _ _
+    closed = new_closed point_behaviour _ _ _ _ _ _ _
 
 -- what it has said, how much that is, and what it owes
 pub record Stays (site : Site) (entry : PointEntry) (host : HostState PointState) (lists : Lists) : Type 0 where
@@ -256,7 +255,7 @@ module _ (written : WrittenIsRead) (owed : LawsBelow) (tell : LawsOfHost point_b
     where
       by_cases : (b : Bool) → is_open ends.server.link.phase ≡ b → (entered : Option ℕ) → entering input connection ends ≡ entered → AllTell done.host.object.sensed after.given
       by_cases true g entered h =
-          let f = finds_inside owed tell (spoken site) entry.name site.station.name (points_keep site) input connection c ends link_is clock_is was.counted was.owed (open_calm point_behaviour now input c.host opened) g
+          let f = finds_inside owed tell (spoken site) entry.name site.station.name (points_keep site) input connection c ends link_is clock_is was.counted was.owed g
           in let longer = ap length f.taken_so
           in let fewer : length ends.server.taken ≤ 2 = let both = length-append ends.server.taken (items_taken now done.calls link) in omega (arith, few, longer, both)
           in let was_open = (settled_open now c.host.link (ap (λ (l : LinkState). is_open l.phase) (sym link_is) ∙ g)).1
@@ -264,6 +263,6 @@ module _ (written : WrittenIsRead) (owed : LawsBelow) (tell : LawsOfHost point_b
           (subst (λ (stands : Position). AllTell stands ends.server.given) (sym (stands_so ∙ calm g fewer)) (before was_open fewer))
           (now_tell (none_reported ends.server.given ends.server.taken f opened few)))
       by_cases false g (Some other) h =
-          let f = finds_new owed tell (spoken site) entry.name site.station.name (points_keep site) input connection c ends link_is clock_is was.counted was.owed (open_calm point_behaviour now input c.host opened) g other h
+          let f = finds_new owed tell (spoken site) entry.name site.station.name (points_keep site) input connection c ends link_is clock_is was.counted was.owed g other h
           in subst (AllTell done.host.object.sensed) (sym f.given_so) (now_tell (none_reported [] [] f opened few))
       by_cases false g None h = absurd (false≢true (sym (stays_outside tell input connection c ends link_is clock_is was.counted g h) ∙ opened))

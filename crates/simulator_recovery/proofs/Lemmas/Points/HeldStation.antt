@@ -12,13 +12,12 @@ use Rattle.simulator_recovery.proofs.Lemmas.Talk.ClientLinks.{ClockedStands, clo
 use Rattle.simulator_recovery.proofs.Lemmas.RoutesComing.HeldNeeds.{heard_in, heard_known}
 use Rattle.simulator_recovery.proofs.Lemmas.RoutesComing.DueKnown.{KnownInside, always_speak, clocked_side}
 use Rattle.simulator_recovery.proofs.Lemmas.Points.HeldClient.{HearsOne, nothing, report}
-use Rattle.simulator_recovery.proofs.Lemmas.Points.HeldPoints.{AtClock, HasHeard, IsLeft, Leaves, OfPoint, Takes, hear, keep, left_first, so_far, at_clock}
+use Rattle.simulator_recovery.proofs.Lemmas.Points.HeldPoints.{AtClock, HasHeard, IsLeft, Leaves, OfPoint, Takes, hear, keep, left_first, so_far}
 use Rattle.simulator_recovery.proofs.Lemmas.Ground.IxlClients.{mapped_at}
 use Rattle.simulator_recovery.proofs.Lemmas.Ground.IxlSoFar.{at_node}
 use Rattle.simulator_recovery.proofs.Lemmas.Points.KnownClient.{after_client}
-use Rattle.simulator_recovery.proofs.Lemmas.Points.KnownIxl.{behind_held, given_heard, found_clocked}
+use Rattle.simulator_recovery.proofs.Lemmas.Points.KnownIxl.{behind_held, given_heard}
 use Rattle.simulator_recovery.proofs.Lemmas.Talk.StationTalk.{Before, SameLists, Talking, before, clocked_link, took, took_behind_step}
-use Rattle.simulator_recovery.proofs.Lemmas.Ground.DueShapes.{found_in}
 
 -- ---- what an event leaves
 
@@ -89,17 +88,14 @@ module _ (clients : LawsBelow) (talk : LawsBelow) (move : MoveLaw) (request : Re
     clock_there = mapped (clocked_known_point now) points place was is.there
 
     clocked_one : Clocked (clocked_known_point now was) []
-    clocked_one = at_clock (record {
-      was = clocked_known_point now was;
-      there = clock_there;
-      same = refl;
-      side = λ inside. refl;
+    clocked_one = record {
       none = refl;
+      there = clock_there;
       link_is = ap (λ (c : ClientState). c.link) (after_client _ _ _) ∙ (clocked_link now was.client ∙ b.link_is);
       counts = subst (ClockedStands now) (sym (after_client _ _ _)) (clocked_stands now was.client b.counts);
       point = ap (λ (c : ClientState). c.peer.protocol) (after_client _ _ _) ∙ (ap (λ (p : PeerState). p.protocol) (clocked_peer now was.client)
           ∙ (always_speak site table world is.reached).points place was is.there);
-    })
+    }
 
     clocked_all : OfPoint place Clocked clocks []
     unfolding at_node
@@ -108,8 +104,7 @@ module _ (clients : LawsBelow) (talk : LawsBelow) (move : MoveLaw) (request : Re
     heard_all : OfPoint place Heard heard_part.ixl.known_points heard_part.calls
     unfolding all_clocked
     heard_all = given_heard now table (OfPoint place Clocked) (OfPoint place Heard) (hear clients now connection place link taken clocks)
-        (key_of site) input (found_in now (begun_with world.interlocking.ixl empty_outbox))
-        (found_clocked now table (OfPoint place Clocked) (OfPoint place Heard) (hear clients now connection place link taken clocks) (begun_with world.interlocking.ixl empty_outbox) clocked_all)
+        (key_of site) input (begun_with (all_clocked now world.interlocking.ixl) empty_outbox) clocked_all
 
     left_all : OfPoint place Left done.ixl.known_points done.calls
     unfolding stepped

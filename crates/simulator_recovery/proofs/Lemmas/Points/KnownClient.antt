@@ -1,23 +1,22 @@
 -- What the client of a point keeps of its side in a step is what the items tell that it has taken.
 use Rattle.simulator_recovery.proofs.Words.Basics.{◌≡◌, ◌≢◌, ◌⊎◌, inl, inr, ℕ, ◌<◌, ◌==◌, ◌∙◌, Bool, true, false, List, [], ◌∷◌, ◌++◌, append-nil, map, Option, Some, None, slice_get, if◌then◌else◌, refl, sym, ap, subst, arith, empty, false≢true, nat_tests}
-use Rattle.simulator_recovery.proofs.Words.Links.{receiving, settled, Call, OutboxState, LinkState, is_client, is_open, is_up, all_made, made_by, Identity, Reason}
+use Rattle.simulator_recovery.proofs.Words.Links.{receiving, settled, Call, OutboxState, LinkState, is_client, is_open, is_up, all_made, made_by}
 use Rattle.simulator_recovery.proofs.Words.Controllers.{Side}
-use Rattle.simulator_recovery.proofs.Words.Interlockings.{ClientState, PeerState, is_outside, ClientSoFar, LinkCall, as_call, begun, ActsOn, MakesAfterReceipt, MakesOwn, link_after, told_by_all, clocked, commanding, hearing, ticking, Indication, unmoved_for, KnownPointState, changed, clocked_known_point, side_heard, side_of, Detector, Node, Point, Signal, known_point_after, closing_behind, Closes}
+use Rattle.simulator_recovery.proofs.Words.Interlockings.{ClientState, PeerState, is_outside, ClientSoFar, LinkCall, as_call, begun, ActsOn, MakesAfterReceipt, MakesOwn, link_after, told_by_all, clocked, commanding, hearing, ticking, Indication, unmoved_for, KnownPointState, changed, clocked_known_point, side_heard, side_of, Detector, Node, Point, Signal, known_point_after}
 use Rattle.simulator_recovery.proofs.Words.Stations.{Places}
 use Rattle.simulator_recovery.proofs.Words.Machine.{taken_after}
 use Rattle.simulator_recovery.proofs.Words.Recovery.{ClientStandsByCounts, side_told, LawsBelow}
 use Rattle.simulator_spec.specs.ixl_client.declared.command.Command.{Command}
 use Rattle.simulator_recovery.proofs.Lemmas.Ground.AspectCalls.{noted_at}
 use Rattle.simulator_recovery.proofs.Lemmas.Ground.ClientBehind.{all_took_behind}
-use Rattle.simulator_recovery.proofs.Lemmas.Talk.ClientLinks.{ClockedStands, clocked_peer, clocked_stands, commanding_peer, commanding_stands, hearing_peer, hearing_stands, ticking_peer, ticking_stands, up_open, closing_stands}
+use Rattle.simulator_recovery.proofs.Lemmas.Talk.ClientLinks.{ClockedStands, clocked_peer, clocked_stands, commanding_peer, commanding_stands, hearing_peer, hearing_stands, ticking_peer, ticking_stands, up_open}
 use Rattle.simulator_recovery.proofs.Lemmas.Ground.IxlClients.{mapped_at}
 use Rattle.simulator_recovery.proofs.Lemmas.Ground.IxlSoFar.{at_itself, at_node, at_other, set_at}
 use Rattle.simulator_recovery.proofs.Lemmas.Ground.LinkCounts.{settled_open}
 use Rattle.simulator_recovery.proofs.Lemmas.Ground.EndCalls.{map_both}
-use Rattle.simulator_recovery.proofs.Lemmas.Points.KnownIxl.{PointsHear, PointsKeep, heard_by, moved_by, ticked_by, closed_by}
+use Rattle.simulator_recovery.proofs.Lemmas.Points.KnownIxl.{PointsHear, PointsKeep, heard_by, moved_by, ticked_by}
 use Rattle.simulator_recovery.proofs.Lemmas.Sections.SectionsClient.{after_both, down_outside, link_is_made, own_keeps, up_inside, all_both}
 use Rattle.simulator_recovery.proofs.Lemmas.Talk.StationTalk.{clocked_link, stays_shut}
-use Rattle.simulator_recovery.proofs.Lemmas.Ground.FoundClients.{by_calls, closing_identity, shut, shut_link, shut_so}
 
 -- ---- what is known
 
@@ -179,23 +178,6 @@ module _ (laws : LawsBelow) (now connection : ℕ) where
           taken_is : taken_after now (map (as_call connection) done.calls) l t ≡ t
           taken_is = ap (λ (cs : List LinkCall). taken_after now (map (as_call connection) cs) l t) calls_are ∙ kept.1
 
-  -- one whose link is closed is outside, and else it knows what it knew
-  knows_shut : (known : KnownPointState) (client : ClientState) (t : List (List ℕ)) → is_open client.link.phase ≡ false → Knows (known_point_after known.side known.moved client) t
-  knows_shut known client t shut_so = record {
-    outside = after_outside known.side known.moved client;
-    last = λ up. absurd (false≢true (sym (ap (λ (c : ClientState). is_open c.link.phase) (after_client known.side known.moved client) ∙ shut_so) ∙ up_open _ up));
-  }
-
-  knows_same : (known : KnownPointState) (t : List (List ℕ)) → ClientStandsByCounts known.client → Knows known t → Knows (known_point_after known.side known.moved known.client) t
-  knows_same known t stands knows = record { outside = after_outside known.side known.moved known.client; last = is_last }
-    where
-      is_last : is_up (known_point_after known.side known.moved known.client).client.link.phase ≡ true
-          → (known_point_after known.side known.moved known.client).side ≡ side_told (known_point_after known.side known.moved known.client).client.peer t
-      is_last up =
-          let was = ap (λ (c : ClientState). is_up c.link.phase) (sym (after_client known.side known.moved known.client)) ∙ up
-          in after_inside known.side known.moved known.client (up_inside known.client stands was)
-          ∙ (knows.last was ∙ ap (λ (p : PeerState). side_told p t) (sym (ap (λ (c : ClientState). c.peer) (after_client known.side known.moved known.client))))
-
   -- ---- all points, with the calls of their links so far
 
   module _ (link_of : ℕ → LinkState) (took : ℕ → List (List ℕ)) (count : ℕ) where
@@ -207,11 +189,12 @@ module _ (laws : LawsBelow) (now connection : ℕ) where
 
     pub record ClockedAt (place : ℕ) (known : KnownPointState) (calls : List LinkCall) : Type 0 where
       pub within : place < count
-      pub link_is : known.client.link ≡ (all_made now (map (as_call connection) calls) (link_of place)).link
+      pub none : calls ≡ []
+      pub link_is : known.client.link ≡ link_of place
       pub counts : ClockedStands now known.client
       pub asks : is_client known.client.link.identity.role ≡ true
-      pub nothing : is_open known.client.link.phase ≡ true → is_up known.client.link.phase ≡ false → taken_after now (map (as_call connection) calls) (link_of place) (took place) ≡ []
-      pub knows : Knows known (taken_after now (map (as_call connection) calls) (link_of place) (took place))
+      pub nothing : is_open known.client.link.phase ≡ true → is_up known.client.link.phase ≡ false → took place ≡ []
+      pub knows : Knows known (took place)
 
     abbrev pub Holds : List KnownPointState → List (Node × LinkCall) → Type 0
     Holds points calls = (place : ℕ) (known : KnownPointState) → slice_get points place ≡ Some known → HoldsAt place known (at_node (Point place) calls)
@@ -220,24 +203,22 @@ module _ (laws : LawsBelow) (now connection : ℕ) where
     Clocked points calls = (place : ℕ) (known : KnownPointState) → slice_get points place ≡ Some known → ClockedAt place known (at_node (Point place) calls)
 
     clocked_holds : (place : ℕ) (known : KnownPointState) (calls : List LinkCall) → ClockedAt place known calls → HoldsAt place known calls
-    clocked_holds place known calls c = record { within = c.within; link_is = c.link_is; counts = c.counts.stands; knows = c.knows }
+    unfolding all_made taken_after
+    clocked_holds place known calls c = subst (HoldsAt place known) (sym c.none) (record { within = c.within; link_is = c.link_is; counts = c.counts.stands; knows = c.knows })
 
     -- the setting of a route changes nothing of this
     unmoved_holds : (number place : ℕ) (known : KnownPointState) (calls : List LinkCall) → HoldsAt place known calls → HoldsAt place (unmoved_for number known) calls
     unmoved_holds number place known calls h = record { within = h.within; link_is = h.link_is; counts = h.counts; knows = record { outside = h.knows.outside; last = h.knows.last } }
 
     -- one of the points goes on by these calls more
-    abbrev EachAt : (ℕ → KnownPointState → List LinkCall → Type 0) → List KnownPointState → List (Node × LinkCall) → Type 0
-    EachAt At points calls = (place : ℕ) (known : KnownPointState) → slice_get points place ≡ Some known → At place known (at_node (Point place) calls)
-
-    one_goes_on : (At : ℕ → KnownPointState → List LinkCall → Type 0) (place : ℕ) (new : KnownPointState) (more : List LinkCall) (points : List KnownPointState) (calls : List (Node × LinkCall)) → At place new (at_node (Point place) calls ++ more)
-        → EachAt At points calls → EachAt At (changed (λ old. new) place points) (noted_at (Point place) more calls)
-    one_goes_on At place new more points calls is all k known e = choose (set_at place new points k known e)
+    one_goes_on : (place : ℕ) (new : KnownPointState) (more : List LinkCall) (points : List KnownPointState) (calls : List (Node × LinkCall)) → HoldsAt place new (at_node (Point place) calls ++ more) → Holds points calls
+        → Holds (changed (λ old. new) place points) (noted_at (Point place) more calls)
+    one_goes_on place new more points calls is all k known e = choose (set_at place new points k known e)
       where
-        choose : ((k ≡ place) × (known ≡ new)) ⊎ ((k ≢ place) × (slice_get points k ≡ Some known)) → At k known (at_node (Point k) (noted_at (Point place) more calls))
-        choose (inl (same, f)) = subst (λ (n : ℕ). At n known (at_node (Point n) (noted_at (Point place) more calls))) (sym same)
-            (subst (λ (x : KnownPointState). At place x (at_node (Point place) (noted_at (Point place) more calls))) (sym f) (subst (At place new) (sym (at_itself (Point place) calls more)) is))
-        choose (inr (apart, f)) = subst (At k known) (sym (at_other (Point k) (Point place) (differs (place == k) refl) calls more)) (all k known f)
+        choose : ((k ≡ place) × (known ≡ new)) ⊎ ((k ≢ place) × (slice_get points k ≡ Some known)) → HoldsAt k known (at_node (Point k) (noted_at (Point place) more calls))
+        choose (inl (same, f)) = subst (λ (n : ℕ). HoldsAt n known (at_node (Point n) (noted_at (Point place) more calls))) (sym same)
+            (subst (λ (x : KnownPointState). HoldsAt place x (at_node (Point place) (noted_at (Point place) more calls))) (sym f) (subst (HoldsAt place new) (sym (at_itself (Point place) calls more)) is))
+        choose (inr (apart, f)) = subst (HoldsAt k known) (sym (at_other (Point k) (Point place) (differs (place == k) refl) calls more)) (all k known f)
           where
             differs : (b : Bool) → (place == k) ≡ b → (place == k) ≡ false
             differs false g = g
@@ -252,33 +233,9 @@ module _ (laws : LawsBelow) (now connection : ℕ) where
     taken_then place calls more known is = ap (λ (l : LinkState). taken_after now (map (as_call connection) more) l (taken_after now (map (as_call connection) calls) (link_of place) (took place))) is
         ∙ (sym (all_took_behind now connection (map (as_call connection) calls) (map (as_call connection) more) (link_of place) (took place)) ∙ ap (λ (cs : List Call). taken_after now cs (link_of place) (took place)) (sym (map_both (as_call connection) calls more)))
 
-    -- one whose link is closed, if it isn't caught up any more
-    closes_at : (place : ℕ) (known : KnownPointState) (outbox : OutboxState) (calls : List LinkCall) → ClockedAt place known calls → ClockedAt place (closed_by now known outbox) (calls ++ (closing_behind now (begun known.client outbox)).calls)
-    unfolding link_after
-    closes_at place known outbox calls c = record {
-      within = c.within;
-      link_is = by_calls (λ (x : ClientState) (cs : List LinkCall). (after x).client.link ≡ (all_made now (map (as_call connection) cs) (link_of place)).link) now known.client outbox calls
-          (λ behind. ap (λ (x : ClientState). x.link) (same (shut now known.client)) ∙ link_then place calls (Closes Reason.User ∷ []) known (shut now known.client).link c.link_is (shut_link now known.client))
-          (λ calm. ap (λ (x : ClientState). x.link) (same known.client) ∙ c.link_is);
-      counts = subst (ClockedStands now) (sym (same done)) (closing_stands now (begun known.client outbox) c.counts);
-      asks = ap (λ (x : ClientState). is_client x.link.identity.role) (same done) ∙ ap (λ (i : Identity). is_client i.role) (closing_identity now (begun known.client outbox)) ∙ c.asks;
-      nothing = by_calls (λ (x : ClientState) (cs : List LinkCall). is_open (after x).client.link.phase ≡ true → is_up (after x).client.link.phase ≡ false
-          → taken_after now (map (as_call connection) cs) (link_of place) (took place) ≡ []) now known.client outbox calls
-          (λ behind opened down. absurd (false≢true (sym (ap (λ (x : ClientState). is_open x.link.phase) (same (shut now known.client)) ∙ (shut_so now known.client).closed) ∙ opened)))
-          (λ calm opened down. c.nothing (ap (λ (x : ClientState). is_open x.link.phase) (sym (same known.client)) ∙ opened) (ap (λ (x : ClientState). is_up x.link.phase) (sym (same known.client)) ∙ down));
-      knows = by_calls (λ (x : ClientState) (cs : List LinkCall). Knows (after x) (taken_after now (map (as_call connection) cs) (link_of place) (took place))) now known.client outbox calls
-          (λ behind. knows_shut known (shut now known.client) _ (shut_so now known.client).closed)
-          (λ calm. knows_same known _ c.counts.stands c.knows);
-    }
-      where
-        after : ClientState → KnownPointState
-        after = known_point_after known.side known.moved
-
-        same : (x : ClientState) → (after x).client ≡ x
-        same = after_client known.side known.moved
-
-        done : ClientState
-        done = (closing_behind now (begun known.client outbox)).client
+    took_none : (place : ℕ) (calls : List LinkCall) → calls ≡ [] → took place ≡ [] → taken_after now (map (as_call connection) calls) (link_of place) (took place) ≡ []
+    unfolding taken_after
+    took_none place calls none e = ap (λ (cs : List LinkCall). taken_after now (map (as_call connection) cs) (link_of place) (took place)) none ∙ e
 
     -- a point is moved
     moves_on : (place : ℕ) (side : Side) (moved : Places) (known : KnownPointState) (outbox : OutboxState) (points : List KnownPointState) (calls : List (Node × LinkCall)) → slice_get points place ≡ Some known → Holds points calls
@@ -287,7 +244,7 @@ module _ (laws : LawsBelow) (now connection : ℕ) where
         let h = all place known e
         in let made = laws.client_step_is_calls_command now (Command.Move side) (begun known.client outbox)
         in let done = commanding now (Command.Move side) (begun known.client outbox)
-        in one_goes_on HoldsAt place (moved_by now side moved known outbox) done.calls points calls (record {
+        in one_goes_on place (moved_by now side moved known outbox) done.calls points calls (record {
           within = h.within;
           link_is = ap (λ (x : ClientState). x.link) (after_client _ _ done.client) ∙ link_then place (at_node (Point place) calls) done.calls known done.client.link h.link_is
               (made.1.link_is ∙ ap (λ (cs : List LinkCall). link_after now cs known.client.link) (sym made.1.calls_are));
@@ -297,23 +254,19 @@ module _ (laws : LawsBelow) (now connection : ℕ) where
 
     pub hear : PointsHear now Clocked Holds
     hear = record {
-      closes = λ place known outbox points calls e all.
-          one_goes_on ClockedAt place (closed_by now known outbox) (closing_behind now (begun known.client outbox)).calls points calls (closes_at place known outbox (at_node (Point place) calls) (all place known e)) all;
-      signal_closes = λ place more points calls all k known e. subst (ClockedAt k known) (sym (at_other (Point k) (Signal place) refl calls more)) (all k known e);
-      detector_closes = λ place more points calls all k known e. subst (ClockedAt k known) (sym (at_other (Point k) (Detector place) refl calls more)) (all k known e);
       still = λ points calls all place known e. clocked_holds place known (at_node (Point place) calls) (all place known e);
       hears = λ place known bytes outbox points calls e all.
           let c = all place known e
           in let h = clocked_holds place known (at_node (Point place) calls) c
           in let made = laws.client_step_is_calls_receipt now bytes (begun known.client outbox)
           in let done = hearing now bytes (begun known.client outbox)
-          in one_goes_on HoldsAt place (heard_by now bytes known outbox) done.calls points calls (record {
+          in one_goes_on place (heard_by now bytes known outbox) done.calls points calls (record {
             within = h.within;
             link_is = ap (λ (x : ClientState). x.link) (after_client _ _ done.client) ∙ link_then place (at_node (Point place) calls) done.calls known done.client.link h.link_is
                 (made.1.link_is ∙ ap (λ (cs : List LinkCall). link_after now cs known.client.link) (sym made.1.calls_are));
             counts = subst ClientStandsByCounts (sym (after_client _ _ done.client)) (hearing_stands now bytes (begun known.client outbox) c.counts);
             knows = subst (Knows (heard_by now bytes known outbox)) (taken_then place (at_node (Point place) calls) done.calls known h.link_is)
-                (knows_heard bytes known outbox _ c.counts c.asks c.nothing h.knows);
+                (knows_heard bytes known outbox _ c.counts c.asks (λ opened down. took_none place (at_node (Point place) calls) c.none (c.nothing opened down)) h.knows);
           }) (λ k other f. clocked_holds k other (at_node (Point k) calls) (all k other f));
       moves = λ place side moved known outbox points calls e all. moves_on place side moved known outbox points calls e (λ k other f. clocked_holds k other (at_node (Point k) calls) (all k other f));
       unmoved = λ number points calls all place known e. let found = mapped_at (unmoved_for number) points place known e in subst (λ (x : KnownPointState). HoldsAt place x (at_node (Point place) calls)) (sym found.2) (unmoved_holds number place found.0 (at_node (Point place) calls) (all place found.0 found.1));
@@ -327,7 +280,7 @@ module _ (laws : LawsBelow) (now connection : ℕ) where
           let h = all place known e
           in let made = laws.client_step_is_calls_tick now (begun known.client outbox)
           in let done = ticking now (begun known.client outbox)
-          in one_goes_on HoldsAt place (ticked_by now known outbox) done.calls points calls (record {
+          in one_goes_on place (ticked_by now known outbox) done.calls points calls (record {
             within = h.within;
             link_is = ap (λ (x : ClientState). x.link) (after_client _ _ done.client) ∙ link_then place (at_node (Point place) calls) done.calls known done.client.link h.link_is
                 (made.1.link_is ∙ ap (λ (cs : List LinkCall). link_after now cs known.client.link) (sym made.1.calls_are));

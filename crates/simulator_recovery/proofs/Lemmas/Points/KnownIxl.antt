@@ -2,11 +2,11 @@
 use Rattle.simulator_recovery.proofs.Words.Basics.{◌≡◌, ℕ, Bool, List, length, map, Option, Some, None, slice_get}
 use Rattle.simulator_recovery.proofs.Words.Links.{OutboxState, reading, Key}
 use Rattle.simulator_recovery.proofs.Words.Controllers.{Aspect, Side}
-use Rattle.simulator_recovery.proofs.Words.Interlockings.{LinkCall, begun, commanding, hearing, ticking, commanded_by, moved_at_once, obeyed, refusal, unmoved_for, count, is_proceed_due, is_stop_due, moved, moving_one, proceeding, ruled, withdrawing, KnownPointState, changed, Commands, Datagram, Input, Tick, addressed, all_clocked, clocked_known_point, detector_hearing, detector_ticking, given, known_point_hearing, known_point_ticking, known_signal_hearing, known_signal_ticking, looking, looking_by, looks, node_hearing, occupied_heard, side_heard, stepped, ticked, Detector, Node, Point, Signal, StepSoFar, all_below, detector_after, giving_aspect, giving_move, known_point_after, noted, with_detector, with_one, Need, Table, is_signal_ready, Command, Refusal, closing_behind, known_signal_closing, known_point_closing, detector_closing}
+use Rattle.simulator_recovery.proofs.Words.Interlockings.{LinkCall, begun, commanding, hearing, ticking, commanded_by, moved_at_once, obeyed, refusal, unmoved_for, count, is_proceed_due, is_stop_due, moved, moving_one, proceeding, ruled, withdrawing, KnownPointState, changed, Commands, Datagram, Input, Tick, addressed, all_clocked, clocked_known_point, detector_hearing, detector_ticking, given, known_point_hearing, known_point_ticking, known_signal_hearing, known_signal_ticking, looking, looking_by, looks, node_hearing, occupied_heard, side_heard, stepped, ticked, watching, Detector, Node, Point, Signal, StepSoFar, all_below, detector_after, giving_aspect, giving_move, known_point_after, noted, over, with_detector, with_one, Need, Table, is_signal_ready, Command, Refusal}
 use Rattle.simulator_recovery.proofs.Words.Stations.{Places}
 use Rattle.simulator_spec.specs.ixl_client.declared.command.Command.{Command as ClientCommand}
 use Rattle.simulator_recovery.proofs.Lemmas.Ground.AspectCalls.{noted_at}
-use Rattle.simulator_recovery.proofs.Lemmas.Ground.DueShapes.{along_keeps, one_keeps, over_keeps, route_keeps, ticked_keeps, turned_keeps, where_keeps, closing_keeps, found_in, seen_in, seen_turns}
+use Rattle.simulator_recovery.proofs.Lemmas.Ground.DueShapes.{along_keeps, one_keeps, over_keeps, route_keeps, ticked_keeps, turned_keeps, watching_turns, where_keeps}
 
 -- a point's client hears a datagram, and its side goes on by what it tells
 abbrev pub heard_by : ℕ → List ℕ → KnownPointState → OutboxState → KnownPointState
@@ -15,19 +15,11 @@ heard_by now bytes known outbox = let done = hearing now bytes (begun known.clie
 abbrev pub ticked_by : ℕ → KnownPointState → OutboxState → KnownPointState
 ticked_by now known outbox = known_point_after known.side known.moved (ticking now (begun known.client outbox)).client
 
-abbrev pub closed_by : ℕ → KnownPointState → OutboxState → KnownPointState
-closed_by now known outbox = known_point_after known.side known.moved (closing_behind now (begun known.client outbox)).client
-
 abbrev pub moved_by : ℕ → Side → Places → KnownPointState → OutboxState → KnownPointState
 moved_by now side moved known outbox = known_point_after known.side moved (commanding now (ClientCommand.Move side) (begun known.client outbox)).client
 
 -- What the input of a step keeps of the points, and of the calls of the links so far: of those whose clocks alone have acted.
 pub record PointsHear (now : ℕ) (Clocked Heard : List KnownPointState → List (Node × LinkCall) → Type 0) : Type 0 where
-  -- a link that isn't caught up any more is closed
-  pub closes : (place : ℕ) (known : KnownPointState) (outbox : OutboxState) (points : List KnownPointState) (calls : List (Node × LinkCall)) → slice_get points place ≡ Some known → Clocked points calls
-      → Clocked (changed (λ old. closed_by now known outbox) place points) (noted_at (Point place) (closing_behind now (begun known.client outbox)).calls calls)
-  pub signal_closes : (place : ℕ) (more : List LinkCall) (points : List KnownPointState) (calls : List (Node × LinkCall)) → Clocked points calls → Clocked points (noted_at (Signal place) more calls)
-  pub detector_closes : (place : ℕ) (more : List LinkCall) (points : List KnownPointState) (calls : List (Node × LinkCall)) → Clocked points calls → Clocked points (noted_at (Detector place) more calls)
   pub still : (points : List KnownPointState) (calls : List (Node × LinkCall)) → Clocked points calls → Heard points calls
   pub hears : (place : ℕ) (known : KnownPointState) (bytes : List ℕ) (outbox : OutboxState) (points : List KnownPointState) (calls : List (Node × LinkCall)) → slice_get points place ≡ Some known → Clocked points calls
       → Heard (changed (λ old. heard_by now bytes known outbox) place points) (noted_at (Point place) (hearing now bytes (begun known.client outbox)).calls calls)
@@ -58,24 +50,6 @@ module _ (now : ℕ) (table : Table) (Clocked Heard : List KnownPointState → L
 
   abbrev IsClocked : StepSoFar → Type 0
   IsClocked part = Clocked part.ixl.known_points part.calls
-
-  signal_closes : (place : ℕ) (part : StepSoFar) → IsClocked part → IsClocked (known_signal_closing now place part)
-  unfolding known_signal_closing
-  signal_closes place part all = one_keeps IsClocked (slice_get part.ixl.known_signals place) _ part
-      (λ known e. hear.signal_closes place (closing_behind now (begun known.client part.outbox)).calls part.ixl.known_points part.calls all) all
-
-  point_closes : (place : ℕ) (part : StepSoFar) → IsClocked part → IsClocked (known_point_closing now place part)
-  unfolding known_point_closing
-  point_closes place part all = one_keeps IsClocked (slice_get part.ixl.known_points place) _ part (λ known e. hear.closes place known part.outbox part.ixl.known_points part.calls e all) all
-
-  detector_closes : (place : ℕ) (part : StepSoFar) → IsClocked part → IsClocked (detector_closing now place part)
-  unfolding detector_closing
-  detector_closes place part all = one_keeps IsClocked (slice_get part.ixl.detectors place) _ part
-      (λ known e. hear.detector_closes place (closing_behind now (begun known.client part.outbox)).calls part.ixl.known_points part.calls all) all
-
-  -- links that aren't caught up any more are closed
-  pub found_clocked : (part : StepSoFar) → IsClocked (record part { ixl = all_clocked now part.ixl }) → IsClocked (found_in now part)
-  found_clocked part all = closing_keeps IsClocked now signal_closes point_closes detector_closes (record part { ixl = all_clocked now part.ixl }) all
 
   still_heard : (part : StepSoFar) → IsClocked part → HasHeard part
   still_heard part all = hear.still part.ixl.known_points part.calls all
@@ -174,14 +148,13 @@ module _ (now : ℕ) (table : Table) (Holds : List KnownPointState → List (Nod
   ticked_held = ticked_keeps Held now signal_ticked point_ticked detector_ticked
 
   -- the rules, and a tick
-  pub behind_held : (input : Input) (part : StepSoFar) → Held part → Held (ticked now input (ruled now table (seen_in now table part)))
-  behind_held input part all = ticked_held input _ (ruled_held _ (seen_turns Held now table (λ number change part all. all) part all))
+  pub behind_held : (input : Input) (part : StepSoFar) → Held part → Held (ticked now input (ruled now table (over (watching table) (count table) part)))
+  behind_held input part all = ticked_held input _ (ruled_held _ (over_keeps Held (watching table) (watching_turns Held now table (λ number change part all. all)) (count table) part all))
 
 -- a step, from points at which the clock alone has acted
 pub step_held : (now : ℕ) (table : Table) (Clocked Heard Holds : List KnownPointState → List (Node × LinkCall) → Type 0) → PointsHear now Clocked Heard → PointsKeep now Holds → ((points : List KnownPointState) (calls : List (Node × LinkCall)) → Heard points calls → Holds points calls)
     → (key : Key) (input : Input) (part : StepSoFar) → Clocked (map (clocked_known_point now) part.ixl.known_points) part.calls → Holds (stepped now table key input part).ixl.known_points (stepped now table key input part).calls
 unfolding stepped all_clocked
 step_held now table Clocked Heard Holds hear keep weaker key input part all =
-    let heard = given now table key input (found_in now part)
-    in behind_held now table Holds keep input heard
-    (weaker heard.ixl.known_points heard.calls (given_heard now table Clocked Heard hear key input (found_in now part) (found_clocked now table Clocked Heard hear part all)))
+    let heard = given now table key input (record part { ixl = all_clocked now part.ixl })
+    in behind_held now table Holds keep input heard (weaker heard.ixl.known_points heard.calls (given_heard now table Clocked Heard hear key input (record part { ixl = all_clocked now part.ixl }) all))

@@ -1,6 +1,6 @@
 -- What an interlocking knows of points is what its clients have taken, event by event.
-use Rattle.simulator_recovery.proofs.Words.Basics.{◌≡◌, ℕ, ◌<◌, ◌∙◌, true, false, List, [], length, map, Some, None, slice_get, sym, ap, subst, arith, false≢true}
-use Rattle.simulator_recovery.proofs.Words.Links.{created, settled, Call, Receives, reading_of, Links, MayCallOn, begun as begun_links, run_links, seen, at_link, LinkState, is_client, is_open, is_up, all_made}
+use Rattle.simulator_recovery.proofs.Words.Basics.{◌≡◌, ℕ, ◌<◌, ◌∙◌, true, false, List, [], length, map, Some, None, slice_get, refl, sym, ap, subst, arith, false≢true}
+use Rattle.simulator_recovery.proofs.Words.Links.{created, settled, Call, Receives, reading_of, Links, MayCallOn, begun as begun_links, run_links, seen, at_link, LinkState, is_client, is_open, is_up}
 use Rattle.simulator_recovery.proofs.Words.Interlockings.{IsTableOf, ClientState, is_outside, new_client, as_call, Stage, IxlState, KnownPointState, clocked_known_point, Point, StepSoFar, begun_with, empty_outbox, Table}
 use Rattle.simulator_recovery.proofs.Words.Stations.{Site, Event, Deliver, NodeId, Beginning, Outset, at_zero, new_known_point_of, new_ixl, world_at, happens, interlocking_step, AreLinksOf, names_at, starts_at_zero, connection_of, copy_of, refusal, point_link, key_of, links, partners, WorldState, node_call, events_of, interlocking_events}
 use Rattle.simulator_recovery.proofs.Words.Machine.{ClientIsAfter, taken_after}
@@ -43,12 +43,13 @@ module _ (clients : LawsBelow) (laws : LawsBelow) (site : Site) (table : Table) 
   took_of place = took network (point_link site place)
 
   clocked_all : Clocked clients now connection link_of took_of (length site.points) (map (clocked_known_point now) world.interlocking.ixl.known_points) []
-  unfolding at_node all_made taken_after
+  unfolding at_node
   clocked_all place known e = let found = mapped_at (clocked_known_point now) world.interlocking.ixl.known_points place known e in subst (λ (k : KnownPointState). ClockedAt clients now connection link_of took_of (length site.points) place k []) (sym found.2) (of_one found.0 found.1)
     where
       of_one : (one : KnownPointState) → slice_get world.interlocking.ixl.known_points place ≡ Some one → ClockedAt clients now connection link_of took_of (length site.points) place (clocked_known_point now one) []
       of_one one f = record {
         within = b.there;
+        none = refl;
         link_is = link_is;
         counts = subst (ClockedStands now) (sym (after_client _ _ _)) (clocked_stands now one.client b.counts);
         asks = ap (λ (l : LinkState). is_client l.identity.role) link_is ∙ b.asks;

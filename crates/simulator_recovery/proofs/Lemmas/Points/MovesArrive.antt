@@ -1,13 +1,12 @@
 -- What a step does to a point that is driven: it drives on, or its contact tells that it lies at its side, and it reports so.
 use Rattle.simulator_recovery.proofs.Words.Basics.{◌≡◌, ◌⊎◌, inl, inr, ℕ, ◌∙◌, not, nat_le, Bool, true, false, if◌then◌else◌, List, [], ◌∷◌, ◌++◌, map, None, is_some, refl, ap, subst, false≢true, and_right}
 use Rattle.simulator_recovery.proofs.Words.Links.{settled, is_open}
-use Rattle.simulator_recovery.proofs.Words.Controllers.{IsPointStep, found_by, moved_by, stage_by, Message, PointPosition, Position, Side, Telegram, HostSoFar, HostState, is_completed, is_outside, items_given, Keeps, Loses, ObjectCall, Pays, Senses, Takes, Ticks, contacts_in, object_after_all, one_of, reports_paid, host_step, AllFit, AreComing, ArePayments, contacts_of, item_of, Input, Report, Sense, point_behaviour, PointState, commanded_by, drive_end, final_report, is_answered, is_at, limited, move_in, move_taken, own_report, position_report, reached, sensing, ticking, Progress, found as found_in}
+use Rattle.simulator_recovery.proofs.Words.Controllers.{IsPointStep, found_by, moved_by, stage_by, Message, PointPosition, Position, Side, Telegram, HostSoFar, HostState, is_completed, is_outside, items_given, Keeps, Loses, ObjectCall, Pays, Senses, Takes, Ticks, contacts_in, object_after_all, one_of, reports_paid, beginning, host_step, AllFit, AreComing, ArePayments, contacts_of, item_of, Input, Report, Sense, point_behaviour, PointState, commanded_by, drive_end, final_report, is_answered, is_at, limited, move_in, move_taken, own_report, position_report, reached, sensing, ticking, Progress}
 use Rattle.simulator_recovery.proofs.Words.Recovery.{MakesStep}
 use Rattle.simulator_spec.specs.point_ctl.Drive as drive
 use Rattle.simulator_spec.specs.point_ctl.Drive.{paying}
 use Rattle.simulator_recovery.proofs.Lemmas.Points.MovesOwed.{object_behind}
 use Rattle.simulator_recovery.proofs.Lemmas.Talk.PointCounts.{begins_so}
-use Rattle.simulator_recovery.proofs.Lemmas.Ground.FoundHosts.{IsCalm, calm_keeps, found_calm, open_calm}
 
 -- ---- what comes where a move waits
 
@@ -135,11 +134,8 @@ module _ (makes : MakesStep) (now : ℕ) (input : Input) (host : HostState Point
   abbrev found : PointState
   found = found_by now host
 
-  calm : IsCalm point_behaviour now host
-  calm = open_calm point_behaviour now input host opened
-
   found_is : found ≡ ticking now host.object
-  found_is = step.stays (and_right (not (is_outside host.stage)) (not (is_open (settled now host.link).phase)) (ap not was_open)) (calm_keeps point_behaviour now host calm)
+  found_is = step.stays (and_right (not (is_outside host.stage)) (not (is_open (settled now host.link).phase)) (ap not was_open))
 
   on_time : (how : Progress) → how ≡ Progress.Driving side since → limited now how ≡ Progress.Driving side since
   on_time how e = ap (limited now) e ∙ ap (λ (b : Bool). if b then Progress.TimedOut else Progress.Driving side since) early
@@ -150,8 +146,8 @@ module _ (makes : MakesStep) (now : ℕ) (input : Input) (host : HostState Point
   found_waits : is_answered found.progress ≡ false
   found_waits = ap is_answered found_drives
 
-  stage_is : is_completed (found_in point_behaviour now host).host.stage ≡ true
-  stage_is = ap is_completed (ap (λ (first : HostSoFar PointState). first.host.stage) (found_calm point_behaviour now host calm) ∙ ((begins_so now host).inside was_open).0) ∙ completed
+  stage_is : is_completed (beginning point_behaviour now host).stage ≡ true
+  stage_is = ap is_completed ((begins_so now host).inside was_open).0 ∙ completed
 
   stage_then : is_completed (stage_by now input host) ≡ true
   stage_then = step.tells.completed stage_is

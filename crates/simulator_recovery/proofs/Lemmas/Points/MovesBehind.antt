@@ -132,7 +132,7 @@ module _ (laws : LawsBelow) (between : List Event) (flowing : Flowing) (place : 
       t : IsUpBehind laws flowing.state.sited station once is_table link below between flowing work start (front ++ last ∷ [])
       t = record {
         behind = b;
-        opens = rounds_open link (front ++ last ∷ []) next start.before a.works (rounds_stay laws flowing.state.sited station once is_table link below (front ++ last ∷ []) next start.before start.is (a.room start.before start.has.are));
+        opens = rounds_open link (front ++ last ∷ []) next start.before a.works (rounds_stay laws flowing.state.sited station once is_table link below (front ++ last ∷ []) next start.is);
         below = b.below a.room;
         long = let n = count_front front last in omega (arith, long, n);
       }

@@ -1,8 +1,8 @@
 -- A point's controller has given a report for each move that it has taken, but for one that waits, and its drive is that of the last move:
 -- after each of its steps.
 use Rattle.simulator_recovery.proofs.Words.Basics.{◌≡◌, inl, inr, ℕ, zero, suc, ◌∙◌, ◌+◌, ◌≤◌, not, nat_le, nat_lt, Bool, true, false, if◌then◌else◌, List, [], ◌∷◌, ◌++◌, append-nil, append_assoc, length, map, Option, Some, None, is_some, slice_get, refl, sym, ap, subst, arith, ltb-true, ltb-false, w16, to_le_bytes, All, false≢true, and_right, length-append, same_Some, slice_get_within}
-use Rattle.simulator_recovery.proofs.Words.Links.{settled, kept, reading_of, Ends, LinkState, is_open}
-use Rattle.simulator_recovery.proofs.Words.Controllers.{IsFinal, IsPointStep, found_by, moved_by, stage_by, called_all, entering, reading, writing, InitialisationCompleted, Message, type_number, Protocol, PointPosition, Timeout, Position, Side, Telegram, HostSoFar, HostState, is_completed, is_outside, said, sender_of, telegram_of, ActsOn, command_of, commands_of, items_given, items_taken, Keeps, Loses, ObjectCall, Pays, Senses, Takes, Ticks, object_after_all, telegrams_in, host_step, initial_status, AllFit, AreComing, ArePayments, calls_begun, item_of, loss_where, Input, Report, Sense, Stage, point_behaviour, PointState, begun, commanded_by, drive_end, is_answered, is_at, limited, move_taken, reached, sensing, taking, ticking, unanswered, Progress, found as found_in, restrictive_from}
+use Rattle.simulator_recovery.proofs.Words.Links.{alive_until, settled, kept, reading_of, Ends, LinkState, is_open}
+use Rattle.simulator_recovery.proofs.Words.Controllers.{IsFinal, IsPointStep, found_by, moved_by, stage_by, called_all, entering, reading, writing, InitialisationCompleted, Message, type_number, Protocol, PointPosition, Timeout, Position, Side, Telegram, HostSoFar, HostState, is_completed, is_outside, said, sender_of, telegram_of, ActsOn, command_of, commands_of, items_given, items_taken, Keeps, Loses, ObjectCall, Pays, Senses, Takes, Ticks, object_after_all, telegrams_in, beginning, host_step, initial_status, AllFit, AreComing, ArePayments, calls_begun, item_of, loss_where, Input, Report, Sense, Stage, point_behaviour, PointState, begun, commanded_by, drive_end, is_answered, is_at, limited, move_taken, reached, sensing, taking, ticking, unanswered, Progress}
 use Rattle.simulator_recovery.proofs.Words.Stations.{step_of, ClockedControllerState}
 use Rattle.simulator_recovery.proofs.Words.Recovery.{last_side, or_before, Any, SaidAll, SaidBy, SomeAsks, item_for, LawsBelow, LawsOfHost}
 use Rattle.simulator_spec.specs.point_ctl.Drive as drive
@@ -13,8 +13,7 @@ use Rattle.simulator_recovery.proofs.Lemmas.Points.DrivenPoints.{answered_drive}
 use Rattle.simulator_recovery.proofs.Lemmas.Ground.HostKeeps.{ObjectKeeps}
 use Rattle.simulator_recovery.proofs.Lemmas.Ground.LinkCounts.{settled_open}
 use Rattle.simulator_recovery.proofs.Lemmas.Talk.PointAnswers.{Counted, enters_none, given_is, stays_outside, taken_is}
-use Rattle.simulator_recovery.proofs.Lemmas.Talk.PointCounts.{begins_so, one_at_most, IsFoundSo}
-use Rattle.simulator_recovery.proofs.Lemmas.Ground.FoundHosts.{IsCalm, calm_keeps, found_calm, open_calm}
+use Rattle.simulator_recovery.proofs.Lemmas.Talk.PointCounts.{begins_so, one_at_most}
 
 -- ---- what telegrams command
 
@@ -105,14 +104,14 @@ pub object_after : (now : ℕ) (input : Input) (host : HostState PointState) (st
 unfolding object_after_all
 object_after now input host step =
     ap (λ (p : PointState). p.progress) (step.tells.object_is
-    ∙ after_both (calls_begun point_behaviour now host) ((step.tells.comes ++ step.tells.pays) ++ (loss_where step.tells.is_lost ++ Keeps kept_until ∷ [])) host.object
+    ∙ after_both (calls_begun now host) ((step.tells.comes ++ step.tells.pays) ++ (loss_where step.tells.is_lost ++ Keeps kept_until ∷ [])) host.object
     ∙ ap (object_after_all point_behaviour ((step.tells.comes ++ step.tells.pays) ++ (loss_where step.tells.is_lost ++ Keeps kept_until ∷ []))) (sym step.tells.begun_is)
     ∙ after_both (step.tells.comes ++ step.tells.pays) (loss_where step.tells.is_lost ++ Keeps kept_until ∷ []) (found_by now host)
     ∙ ap (object_after_all point_behaviour (loss_where step.tells.is_lost ++ Keeps kept_until ∷ [])) (after_both step.tells.comes step.tells.pays (found_by now host))
     ∙ after_both (loss_where step.tells.is_lost) (Keeps kept_until ∷ []) (object_after_all point_behaviour step.tells.pays (object_after_all point_behaviour step.tells.comes (found_by now host))))
   where
     kept_until : ℕ
-    kept_until = restrictive_from (host_step point_behaviour now input host).host
+    kept_until = alive_until (host_step point_behaviour now input host).host.link
 
 -- where the link stays open nothing is lost
 pub object_behind : (now : ℕ) (input : Input) (host : HostState PointState) (step : IsPointStep now input host (host_step point_behaviour now input host)) → is_open (host_step point_behaviour now input host).host.link.phase ≡ true
@@ -241,8 +240,8 @@ module _ (laws : LawsBelow) (tell : LawsOfHost point_behaviour) (version : ℕ) 
     pub given_so : after.given ≡ given ++ given_now
     pub taken_so : after.taken ≡ taken ++ taken_now
     aims : Aims (last_side None (commands_of taken)) found.progress
-    owes : is_completed (found_in point_behaviour now c.host).host.stage ≡ true → 4 + length (commands_of taken) ≤ length given + unanswered found.progress
-    early : is_completed (found_in point_behaviour now c.host).host.stage ≡ false → (commands_of taken ≡ []) × (unanswered found.progress ≡ 0)
+    owes : is_completed (beginning point_behaviour now c.host).stage ≡ true → 4 + length (commands_of taken) ≤ length given + unanswered found.progress
+    early : is_completed (beginning point_behaviour now c.host).stage ≡ false → (commands_of taken ≡ []) × (unanswered found.progress ≡ 0)
 
   taken_commands : (given taken : List (List ℕ)) → Finds given taken → is_open done.host.link.phase ≡ true → commands_of after.taken ≡ commands_of taken ++ done.told
   taken_commands given taken f opened = ap commands_of f.taken_so ∙ commands_both taken taken_now ∙ ap (λ (rest : List Telegram). commands_of taken ++ rest) (told_is opened)
@@ -288,12 +287,12 @@ module _ (laws : LawsBelow) (tell : LawsOfHost point_behaviour) (version : ℕ) 
         in omega (arith, all, parts, mapped)
 
     owes_then : 4 + length (commands_of after.taken) ≤ length after.given + unanswered done.host.object.progress
-    owes_then = choose (is_completed (found_in point_behaviour now c.host).host.stage) refl
+    owes_then = choose (is_completed (beginning point_behaviour now c.host).stage) refl
       where
         told_count : length (commands_of after.taken) ≡ length (commands_of taken) + length done.told
         told_count = ap length (taken_commands given taken f opened) ∙ length-append (commands_of taken) done.told
 
-        choose : (b : Bool) → is_completed (found_in point_behaviour now c.host).host.stage ≡ b → 4 + length (commands_of after.taken) ≤ length after.given + unanswered done.host.object.progress
+        choose : (b : Bool) → is_completed (beginning point_behaviour now c.host).stage ≡ b → 4 + length (commands_of after.taken) ≤ length after.given + unanswered done.host.object.progress
         choose true e =
             let before = f.owes e in let t = told_count in let g = given_count given taken f in let a = step.answers opened stage_so in let m = (step.commanded opened).0 in omega (arith, before, t, g, a, m)
         choose false e =
@@ -309,12 +308,12 @@ module _ (laws : LawsBelow) (tell : LawsOfHost point_behaviour) (version : ℕ) 
   }
     where
       none_told : is_open done.host.link.phase ≡ true → is_completed done.host.stage ≡ false → commands_of taken ++ commands_of taken_now ≡ []
-      none_told opened early = both (before (is_completed (found_in point_behaviour now c.host).host.stage) refl) (told_is opened ∙ step.tells.untold stage_so)
+      none_told opened early = both (before (is_completed (beginning point_behaviour now c.host).stage) refl) (told_is opened ∙ step.tells.untold stage_so)
         where
           stage_so : is_completed (stage_by now input c.host) ≡ false
           stage_so = ap is_completed (sym (step.tells.stage_is opened)) ∙ early
 
-          before : (b : Bool) → is_completed (found_in point_behaviour now c.host).host.stage ≡ b → commands_of taken ≡ []
+          before : (b : Bool) → is_completed (beginning point_behaviour now c.host).stage ≡ b → commands_of taken ≡ []
           before true g = absurd (false≢true (sym stage_so ∙ step.tells.completed g))
           before false g = (f.early g).0
 
@@ -328,12 +327,9 @@ module _ (laws : LawsBelow) (tell : LawsOfHost point_behaviour) (version : ℕ) 
           (comes_aim now step.tells.comes found (last_side None (commands_of taken)) step.tells.are_coming (step.tells.fit opened) f.aims)
           side since (sym (object_is opened) ∙ e)
 
-  found_so : IsCalm point_behaviour now c.host → IsFoundSo now c.host (found_in point_behaviour now c.host).host
-  found_so calm = subst (λ (first : HostSoFar PointState). IsFoundSo now c.host first.host) (sym (found_calm point_behaviour now c.host calm)) (begins_so now c.host)
-
   -- in the connection that it was in
-  pub finds_inside : IsCalm point_behaviour now c.host → is_open ends.server.link.phase ≡ true → Finds ends.server.given ends.server.taken
-  finds_inside calm g = record {
+  pub finds_inside : is_open ends.server.link.phase ≡ true → Finds ends.server.given ends.server.taken
+  finds_inside g = record {
     given_so = given_is tell input connection c ends link_is clock_is counted ∙ ap (λ (o : Option ℕ). kept o ends.server.given ++ given_now) (enters_none tell input connection c ends link_is clock_is counted g);
     taken_so = taken_is tell input connection c ends link_is clock_is counted ∙ ap (λ (o : Option ℕ). kept o ends.server.taken ++ taken_now) (enters_none tell input connection c ends link_is clock_is counted g);
     aims = λ side since e. owed.aims was_open side since (limited_drive now c.host.object.progress side since (sym (ap (λ (p : PointState). p.progress) found_is) ∙ e));
@@ -349,11 +345,11 @@ module _ (laws : LawsBelow) (tell : LawsOfHost point_behaviour) (version : ℕ) 
       was_open : is_open c.host.link.phase ≡ true
       was_open = (settled_open now c.host.link opened).1
 
-      stage_is : (found_in point_behaviour now c.host).host.stage ≡ c.host.stage
-      stage_is = ((found_so calm).inside opened).0
+      stage_is : (beginning point_behaviour now c.host).stage ≡ c.host.stage
+      stage_is = ((begins_so now c.host).inside opened).0
 
       found_is : found ≡ ticking now c.host.object
-      found_is = step.stays (and_right (not (is_outside c.host.stage)) (not (is_open link.phase)) (ap not opened)) (calm_keeps point_behaviour now c.host calm)
+      found_is = step.stays (and_right (not (is_outside c.host.stage)) (not (is_open link.phase)) (ap not opened))
 
       same_waits : (at : ℕ) (how : Progress) → unanswered (limited at how) ≡ unanswered how
       same_waits at Progress.Answered = refl
@@ -366,9 +362,9 @@ module _ (laws : LawsBelow) (tell : LawsOfHost point_behaviour) (version : ℕ) 
       same_waits at Progress.TimedOut = refl
 
   -- in one that it enters
-  pub finds_new : IsCalm point_behaviour now c.host → is_open ends.server.link.phase ≡ false → (entered : ℕ) → entering input connection ends ≡ Some entered → Finds [] []
+  pub finds_new : is_open ends.server.link.phase ≡ false → (entered : ℕ) → entering input connection ends ≡ Some entered → Finds [] []
   unfolding commands_of
-  finds_new calm g entered h = record {
+  finds_new g entered h = record {
     given_so = given_is tell input connection c ends link_is clock_is counted ∙ ap (λ (o : Option ℕ). kept o ends.server.given ++ given_now) h;
     taken_so = taken_is tell input connection c ends link_is clock_is counted ∙ ap (λ (o : Option ℕ). kept o ends.server.taken ++ taken_now) h;
     aims = none_waits found.progress outside.1 None;
@@ -376,27 +372,26 @@ module _ (laws : LawsBelow) (tell : LawsOfHost point_behaviour) (version : ℕ) 
     early = λ early. (refl, outside.1);
   }
     where
-      outside : ((found_in point_behaviour now c.host).host.stage ≡ Stage.Outside) × (unanswered found.progress ≡ 0)
-      outside = (found_so calm).outside (ap (λ (l : LinkState). is_open l.phase) (sym link_is) ∙ g) (λ early. ap unanswered (owed.idle early))
+      outside : ((beginning point_behaviour now c.host).stage ≡ Stage.Outside) × (unanswered found.progress ≡ 0)
+      outside = (begins_so now c.host).outside (ap (λ (l : LinkState). is_open l.phase) (sym link_is) ∙ g) (λ early. ap unanswered (owed.idle early))
 
   -- outside, and in none after the step
-  stays_out : is_open done.host.link.phase ≡ false → Owed done.host after
-  stays_out shut = record {
+  stays_out : is_open ends.server.link.phase ≡ false → entering input connection ends ≡ None → Owed done.host after
+  stays_out g h = record {
     idle = step.answered owed.idle;
     early = λ opened. absurd (false≢true (sym shut ∙ opened));
     owes = λ opened. absurd (false≢true (sym shut ∙ opened));
     aims = λ opened. absurd (false≢true (sym shut ∙ opened));
   }
+    where
+      shut : is_open done.host.link.phase ≡ false
+      shut = stays_outside tell input connection c ends link_is clock_is counted g h
 
   pub controller_owes : Tells point_behaviour Any version own_name peer_name keep (step_of point_behaviour input c).host (lists_of (called_all connection (step_of point_behaviour input c).calls ends).server)
       → Owed (step_of point_behaviour input c).host (lists_of (called_all connection (step_of point_behaviour input c).calls ends).server)
-  controller_owes tells = by_behind (is_open done.host.link.phase) refl
+  controller_owes tells = by_cases (is_open ends.server.link.phase) refl (entering input connection ends) refl
     where
-      by_cases : IsCalm point_behaviour now c.host → (b : Bool) → is_open ends.server.link.phase ≡ b → (entered : Option ℕ) → entering input connection ends ≡ entered → Owed done.host after
-      by_cases calm true g entered h = leaves tells ends.server.given ends.server.taken (finds_inside calm g)
-      by_cases calm false g (Some other) h = leaves tells [] [] (finds_new calm g other h)
-      by_cases calm false g None h = stays_out (stays_outside tell input connection c ends link_is clock_is counted g h)
-
-      by_behind : (b : Bool) → is_open done.host.link.phase ≡ b → Owed done.host after
-      by_behind true opened = by_cases (open_calm point_behaviour now input c.host opened) (is_open ends.server.link.phase) refl (entering input connection ends) refl
-      by_behind false shut = stays_out shut
+      by_cases : (b : Bool) → is_open ends.server.link.phase ≡ b → (entered : Option ℕ) → entering input connection ends ≡ entered → Owed done.host after
+      by_cases true g entered h = leaves tells ends.server.given ends.server.taken (finds_inside g)
+      by_cases false g (Some other) h = leaves tells [] [] (finds_new g other h)
+      by_cases false g None h = stays_out g h

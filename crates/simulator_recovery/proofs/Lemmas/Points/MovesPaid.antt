@@ -2,14 +2,13 @@
 -- limit.
 use Rattle.simulator_recovery.proofs.Words.Basics.{◌≡◌, ◌⊎◌, inl, inr, ℕ, zero, suc, ◌∙◌, ◌-◌, ◌≤◌, ◌<◌, ◌&&◌, ◌||◌, not, nat_le, nat_lt, Bool, true, false, if◌then◌else◌, List, [], ◌∷◌, length, Option, Some, None, is_ok, refl, sym, ap, subst, ltb-false, false≢true, none-some, Result, Ok, Err}
 use Rattle.simulator_recovery.proofs.Words.Links.{acceptance, answer_to_send, sending_item, ticking, deadline, settled, window_size, SendFault, Step, beating as link_beating, entered, giving, sending, silent as stays_silent, LinkState, is_open, is_up, Heartbeat}
-use Rattle.simulator_recovery.proofs.Words.Controllers.{IsPointStep, found_by, HostSoFar, HostState, fallen, is_completed, is_outside, keeping, silent, then_do, Keeps, Loses, ObjectCall, Pays, Senses, Takes, Ticks, object_after_all, beating, beginning, ending, given as given_in, goes_on, host_step, most_owed, paid, paying, paying_first, posting, AreComing, ArePayments, has_lost, loss_where, Input, Report, Sense, Stage, Side, Telegram, point_behaviour, PointState, answered, begun, drive_end, final_report, is_at, limited, move_taken, sensing, taking, Progress, after_refusal, found, going_on, loses_behind, watched}
+use Rattle.simulator_recovery.proofs.Words.Controllers.{IsPointStep, found_by, HostSoFar, HostState, fallen, is_completed, is_outside, keeping, silent, then_do, Keeps, Loses, ObjectCall, Pays, Senses, Takes, Ticks, object_after_all, beating, beginning, ending, given as given_in, goes_on, host_step, most_owed, paid, paying, paying_first, posting, AreComing, ArePayments, has_lost, loss_where, Input, Report, Sense, Stage, Side, Telegram, point_behaviour, PointState, answered, begun, drive_end, final_report, is_at, limited, move_taken, sensing, taking, Progress}
 use Rattle.simulator_spec.specs.point_ctl.Drive as drive
 use Rattle.simulator_spec.specs.point_ctl.Drive.{losing}
 use Rattle.simulator_recovery.proofs.Lemmas.Talk.ClientLinks.{up_open}
 use Rattle.simulator_recovery.proofs.Lemmas.Points.DrivenPoints.{answered_drive}
 use Rattle.simulator_recovery.proofs.Lemmas.Ground.LinkCounts.{tick_was_open}
 use Rattle.simulator_recovery.proofs.Lemmas.Points.MovesOwed.{limited_drive, object_after, reached_drive}
-use Rattle.simulator_recovery.proofs.Lemmas.Ground.FoundHosts.{refused_link, refused_stage}
 
 -- ---- what is owed
 
@@ -103,11 +102,11 @@ module _ (now : ℕ) where
           sent = posting now report host
 
           first : Bool → Bool → HostSoFar PointState
-          first b d = if not b then silent (paid point_behaviour host) else (if d then record sent { host = paid point_behaviour sent.host } else then_do sent (after_refusal point_behaviour now (answer_to_send now host.link)))
+          first b d = if not b then silent (paid point_behaviour host) else (if d then record sent { host = paid point_behaviour sent.host } else sent)
 
           by_tests : (b : Bool) → b ≡ true → (d : Bool) → is_ok (answer_to_send now host.link) ≡ d → IsDone (if not b || d then then_do (first b d) (paying point_behaviour now most) else first b d).host
           by_tests true f true g = inl (subst IsPaid (sym (stays_paid most (paid point_behaviour sent.host) (answered_paid host.object.progress))) (answered_paid host.object.progress))
-          by_tests true f false g = inr (refused_link point_behaviour now IsFull (answer_to_send now host.link) sent.host (λ link shut up. absurd (false≢true (sym shut ∙ up_open _ up))) (refused_full _ host.link g))
+          by_tests true f false g = inr (refused_full _ host.link g)
           by_tests false f d g = absurd (false≢true f)
 
   paying_stage : (most : ℕ) (host : HostState PointState) → (paying point_behaviour now most host).host.stage ≡ host.stage
@@ -122,10 +121,10 @@ module _ (now : ℕ) where
           sent : HostSoFar PointState
           sent = posting now report host
 
-          choose : (b d : Bool) → (if not b then silent (paid point_behaviour host) else (if d then record sent { host = paid point_behaviour sent.host } else then_do sent (after_refusal point_behaviour now (answer_to_send now host.link)))).host.stage ≡ host.stage
+          choose : (b d : Bool) → (if not b then silent (paid point_behaviour host) else (if d then record sent { host = paid point_behaviour sent.host } else sent)).host.stage ≡ host.stage
           choose false d = refl
           choose true true = refl
-          choose true false = refused_stage point_behaviour now (answer_to_send now host.link) sent.host
+          choose true false = refl
 
       by_owed : (o : Option Report) → (paying point_behaviour now most (paying_first point_behaviour now o host).host).host.stage ≡ (paying_first point_behaviour now o host).host.stage
           → (if goes_on now o host then then_do (paying_first point_behaviour now o host) (paying point_behaviour now most) else paying_first point_behaviour now o host).host.stage ≡ host.stage
@@ -137,24 +136,24 @@ module _ (now : ℕ) where
 
   -- ---- a step
 
-  ends_done : (host : HostState PointState) → is_completed (ending point_behaviour now host).stage ≡ true → (is_completed host.stage ≡ true → IsDone host) → IsDone (ending point_behaviour now host)
+  ends_done : (host : HostState PointState) → is_completed (ending point_behaviour host).stage ≡ true → (is_completed host.stage ≡ true → IsDone host) → IsDone (ending point_behaviour host)
   unfolding fallen keeping
   ends_done host completed before = choose (not (is_outside host.stage) && not (is_open host.link.phase)) completed
     where
       lost : HostState PointState
       lost = record host { stage = Stage.Outside; object = losing host.object }
 
-      choose : (b : Bool) → is_completed (if b then lost else host).stage ≡ true → IsDone (keeping point_behaviour (watched now (if b then lost else host)))
+      choose : (b : Bool) → is_completed (if b then lost else host).stage ≡ true → IsDone (keeping point_behaviour (if b then lost else host))
       choose true e = absurd (false≢true e)
       choose false e = before e
 
   pub step_done : (input : Input) (host : HostState PointState) → is_completed (host_step point_behaviour now input host).host.stage ≡ true
       → IsPaid (host_step point_behaviour now input host).host.object.progress ⊎ IsFull (host_step point_behaviour now input host).host.link
-  unfolding host_step going_on beating
+  unfolding host_step beating
   step_done input host completed = ends_done done completed (λ e. beats input told (pays_all 19 heard (ap is_completed (sym (beats_stage input told ∙ paying_stage 20 heard)) ∙ e)))
     where
       heard : HostState PointState
-      heard = (given_in point_behaviour now input (found point_behaviour now host).host).host
+      heard = (given_in point_behaviour now input (beginning point_behaviour now host)).host
 
       told : HostState PointState
       told = (paying point_behaviour now most_owed heard).host
@@ -236,11 +235,7 @@ module _ (Was : Side → ℕ → Type 0) (now : ℕ) where
     where
       by_lost : (b : Bool) → has_lost (record host { link = settled now host.link }) ≡ b → IsNew Was now (found_by now host).progress
       by_lost true f = subst (λ (p : PointState). IsNew Was now p.progress) (sym (step.lost f)) (λ side since e. answered_new side since (limited_drive now Progress.Answered side since e))
-      by_lost false f = by_behind (loses_behind now (beginning point_behaviour now host)) refl
-        where
-          by_behind : (b : Bool) → loses_behind now (beginning point_behaviour now host) ≡ b → IsNew Was now (found_by now host).progress
-          by_behind true g = subst (λ (p : PointState). IsNew Was now p.progress) (sym (step.closed g)) (λ side since e. absurd (cc e))
-          by_behind false g = subst (λ (p : PointState). IsNew Was now p.progress) (sym (step.stays f g)) (λ side since e. before side since (limited_drive now host.object.progress side since e))
+      by_lost false f = subst (λ (p : PointState). IsNew Was now p.progress) (sym (step.stays f)) (λ side since e. before side since (limited_drive now host.object.progress side since e))
 
 -- a drive hasn't come to its limit at this reading, or begins with it
 abbrev pub IsFresh : ℕ → Progress → Type 0
@@ -261,8 +256,4 @@ step_fresh now input host step = found_new (λ side since. nat_le (drive_end sin
   where
     by_lost : (b : Bool) → has_lost (record host { link = settled now host.link }) ≡ b → IsFresh now (found_by now host).progress
     by_lost true f = subst (λ (p : PointState). IsFresh now p.progress) (sym (step.lost f)) (limited_fresh now Progress.Answered)
-    by_lost false f = by_behind (loses_behind now (beginning point_behaviour now host)) refl
-      where
-        by_behind : (b : Bool) → loses_behind now (beginning point_behaviour now host) ≡ b → IsFresh now (found_by now host).progress
-        by_behind true g = subst (λ (p : PointState). IsFresh now p.progress) (sym (step.closed g)) (λ side since e. absurd (cc e))
-        by_behind false g = subst (λ (p : PointState). IsFresh now p.progress) (sym (step.stays f g)) (limited_fresh now host.object.progress)
+    by_lost false f = subst (λ (p : PointState). IsFresh now p.progress) (sym (step.stays f)) (limited_fresh now host.object.progress)

@@ -1,14 +1,13 @@
 -- What a good round leaves of a point's controller: it has just made a step.
-use Rattle.simulator_recovery.proofs.Words.Basics.{◌≡◌, ◌⊎◌, inl, inr, ℕ, zero, suc, ◌∙◌, ◌+◌, ◌-◌, ◌≤◌, ◌<◌, ◌&&◌, nat_le, nat_lt, Bool, true, false, if◌then◌else◌, List, [], ◌∷◌, ◌++◌, length, Option, Some, None, slice_get, slice_set, refl, sym, ap, subst, arith, false≢true, nat_tests, none-some, same_Some}
-use Rattle.simulator_recovery.proofs.Words.Links.{deadline, settled, Each, reading_of, is_open}
-use Rattle.simulator_recovery.proofs.Words.Controllers.{Occupancy, Side, HostState, is_completed, restrictive_from, host_step, Input, Sense, point_behaviour, PointState, drive_end, driven, Progress}
+use Rattle.simulator_recovery.proofs.Words.Basics.{◌≡◌, ◌⊎◌, inl, inr, ℕ, zero, suc, ◌∙◌, ◌+◌, ◌-◌, ◌^◌, ◌≤◌, ◌<◌, ◌&&◌, min, nat_le, nat_lt, Bool, true, false, if◌then◌else◌, List, [], ◌∷◌, ◌++◌, length, Option, Some, None, slice_get, slice_set, refl, sym, ap, subst, arith, false≢true, nat_tests, none-some, same_Some}
+use Rattle.simulator_recovery.proofs.Words.Links.{alive_until, deadline, settled, Each, reading_of, is_open}
+use Rattle.simulator_recovery.proofs.Words.Controllers.{Occupancy, Side, HostState, is_completed, host_step, Input, Sense, point_behaviour, PointState, drive_end, driven, Progress}
 use Rattle.simulator_recovery.proofs.Words.Interlockings.{SitedTable, Table}
 use Rattle.simulator_recovery.proofs.Words.Stations.{Site, Event, Refused, RoundEvent, controller_after, step_of, Flowing, all_did, deliveries, did, due, reaches, round, round_of_time, ticks, Stepped, coming, delivered_to, detector_stepped, happens, interlocking_stepped, point_stepped, sensed_by, signal_stepped, stepped_at, ticked_at, connection_of, copy_of, Node, links, node_at, point_link, driven_at, driven_by, refusal, refused_where, ClockedControllerState, WorldState, Played, after, arrival_in, world_where, driven as found_driven}
 use Rattle.simulator_recovery.proofs.Words.Recovery.{IsDriven, IsWork, all_tried, MakesStep}
 use Rattle.simulator_spec.specs.Nodes as nodes
 use Rattle.simulator_recovery.proofs.Lemmas.Rounds.Clocks.{IsCalm}
 use Rattle.simulator_recovery.proofs.Lemmas.Points.DrivenPoints.{did_both, did_sited}
-use Rattle.simulator_recovery.proofs.Lemmas.Ground.CaughtUpHosts.{alive_still, open_caught_up, restrictive_later}
 use Rattle.simulator_recovery.proofs.Lemmas.Ground.LinkCounts.{settled_open}
 use Rattle.simulator_recovery.proofs.Lemmas.Ground.EndCalls.{set_own}
 use Rattle.simulator_recovery.proofs.Lemmas.Points.MovesMoment.{point_controller}
@@ -29,7 +28,7 @@ LeftAt place points = (c : ClockedControllerState PointState) → slice_get poin
 abbrev pub IsLeftAt : ℕ → Played → Type 0
 IsLeftAt place world = LeftAt place world.run.points
 
-pub set_cases : {X : Type 0} (list : List X) (at place : ℕ) (new y : X) → slice_get (slice_set list at new) place ≡ Some y → ((at ≡ place) × (y ≡ new)) ⊎ (slice_get list place ≡ Some y)
+set_cases : {X : Type 0} (list : List X) (at place : ℕ) (new y : X) → slice_get (slice_set list at new) place ≡ Some y → ((at ≡ place) × (y ≡ new)) ⊎ (slice_get list place ≡ Some y)
 set_cases [] at place new y e = absurd (none-some y e)
 set_cases (x ∷ list) zero zero new y e = inl (refl, sym (same_Some new y e))
 set_cases (x ∷ list) zero (suc place) new y e = inr e
@@ -201,34 +200,25 @@ module _ (makes : MakesStep) (c : ClockedControllerState PointState) (left : IsL
   left_paid completed = subst (λ (h : HostState PointState). IsPaid h.object.progress ⊎ IsFull h.link) (sym left.is) (step_done now left.input left.before (ap (λ (h : HostState PointState). is_completed h.stage) (sym left.is) ∙ completed))
 
   module _ (inside : is_open (settled now c.host.link).phase ≡ true) (early : c.clock ≤ 9000000000000000) where
-    opened : (settled now c.host.link ≡ record c.host.link { clock = now }) × (is_open c.host.link.phase ≡ true) × (now < deadline c.host.link)
-    opened = settled_open now c.host.link inside
+    lives : now < deadline c.host.link
+    lives = (settled_open now c.host.link inside).2
 
-    small : now ≤ 9000000000000
+    small : now ≤ 9000000000000000
     small = less c.clock early
       where
-        less : (n : ℕ) → n ≤ 9000000000000000 → reading_of n ≤ 9000000000000
+        less : (n : ℕ) → n ≤ 9000000000000000 → reading_of n ≤ 9000000000000000
         less n few = omega (arith, few)
 
     fresh : IsFresh now c.host.object.progress
     fresh = subst (λ (h : HostState PointState). IsFresh now h.object.progress) (sym left.is)
         (step_fresh now left.input left.before (makes now left.input left.before))
 
-    until_is : c.host.object.until ≡ restrictive_from c.host
-    until_is = subst (λ (h : HostState PointState). h.object.until ≡ restrictive_from h) (sym left.is) (makes now left.input left.before).until
-
-    -- a strict host is caught up
-    caught_up : c.host.is_strict ≡ true → now < c.host.caught_up_until
-    caught_up = subst Caught (sym left.is) (open_caught_up point_behaviour now left.input left.before) opened.1 opened.2 small
-      where
-        Caught : HostState PointState → Type 0
-        Caught h = is_open h.link.phase ≡ true → now < deadline h.link → now ≤ 9000000000000 → h.is_strict ≡ true → now < h.caught_up_until
-
-    until_later : now < c.host.object.until
-    until_later = subst (λ (n : ℕ). now < n) (sym until_is) (restrictive_later now c.host.caught_up_until c.host.link c.host.is_strict caught_up (alive_still now c.host.link opened.2 small))
+    until_is : c.host.object.until ≡ alive_until c.host.link
+    until_is = subst (λ (h : HostState PointState). h.object.until ≡ alive_until h.link) (sym left.is) (makes now left.input left.before).until
 
     -- a drive is on
     pub left_drives : (side : Side) (since : ℕ) → c.host.object.progress ≡ Progress.Driving side since → driven_by c ≡ Some side
+    unfolding alive_until
     left_drives side since e = ap (driven now c.host.object.until) e ∙ on (nat_lt now (drive_end since)) (before_limit (fresh side since e)) (nat_lt now c.host.object.until) before_until
       where
         on : (a : Bool) → a ≡ true → (b : Bool) → b ≡ true → (if a && b then Some side else None) ≡ Some side
@@ -236,7 +226,7 @@ module _ (makes : MakesStep) (c : ClockedControllerState PointState) (left : IsL
         on true f false g = absurd (false≢true g)
         on false f b g = absurd (false≢true f)
 
-        begins : (n : ℕ) → n ≤ 9000000000000 → nat_lt n (drive_end n) ≡ true
+        begins : (n : ℕ) → n ≤ 9000000000000000 → nat_lt n (drive_end n) ≡ true
         begins n few = grind (arith, nat_tests, few)
 
         still : (n m : ℕ) → nat_le m n ≡ false → nat_lt n m ≡ true
@@ -246,11 +236,11 @@ module _ (makes : MakesStep) (c : ClockedControllerState PointState) (left : IsL
         before_limit (inl f) = still now (drive_end since) f
         before_limit (inr f) = subst (λ (n : ℕ). nat_lt now (drive_end n) ≡ true) (sym f) (begins now small)
 
-        later : (n m : ℕ) → n < m → nat_lt n m ≡ true
-        later n m less = grind (arith, nat_tests, less)
+        lives_on : (n m : ℕ) → n ≤ 9000000000000000 → n < m → nat_lt n (min m (2 ^ 64 - 1)) ≡ true
+        lives_on n m few less = grind (arith, nat_tests, few, less)
 
         before_until : nat_lt now c.host.object.until ≡ true
-        before_until = later now c.host.object.until until_later
+        before_until = ap (nat_lt now) until_is ∙ lives_on now (deadline c.host.link) small lives
 
 driver_there : (place : ℕ) (points : List (ClockedControllerState PointState)) (c : ClockedControllerState PointState) → slice_get points place ≡ Some c → driven_at place points ≡ driven_by c
 driver_there place [] c e = absurd (none-some c e)

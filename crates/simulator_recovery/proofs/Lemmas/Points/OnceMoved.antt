@@ -2,10 +2,10 @@
 use Rattle.simulator_recovery.proofs.Words.Basics.{◌≡◌, ◌⊎◌, inl, inr, ℕ, zero, suc, ◌∙◌, ◌+◌, ◌<◌, ◌≤◌, ◌&&◌, ◌||◌, ◌==◌, Bool, true, false, List, length, Option, Some, None, slice_get, if◌then◌else◌, refl, sym, ap, arith, not, nat_cmp_total, unsigned_tied, contains, empty, contains-insert, false≢true, nat_tests, subst, same_Some}
 use Rattle.simulator_recovery.proofs.Words.Links.{reading_of, OutboxState, stops_at_greatest, LinkState, is_open, is_up, Reason, answer_to_send, Key, Each}
 use Rattle.simulator_recovery.proofs.Words.Controllers.{writing, Side}
-use Rattle.simulator_recovery.proofs.Words.Interlockings.{lies_in_closed, ClientState, is_available, is_outside, is_ready, ClientSoFar, Closes, Sends, begun, calling, at_stage, clocked, commanding, fallen, hearing, is_refused_by_window, message_of, posting, stage_after_command, telegram_to, ticking, Move, Stage, come_to, count, is_move_due, is_over_clear, is_unmoved, is_waiting, IxlState, KnownPointState, RouteState, Commands, Input, stepped, StepSoFar, all_below, begun_with, empty_outbox, giving_move, known_point_after, Need, Row, Table, is_held_with_authority, is_known, is_point_available, Command, Phase, IsTableOf, PeerState, Node, Point, SitedTable, closing_behind}
+use Rattle.simulator_recovery.proofs.Words.Interlockings.{lies_in_closed, ClientState, is_available, is_outside, is_ready, ClientSoFar, Closes, Sends, begun, calling, at_stage, clocked, commanding, fallen, hearing, is_refused_by_window, message_of, posting, stage_after_command, telegram_to, ticking, Move, Stage, come_to, count, is_move_due, is_over_clear, is_unmoved, is_waiting, IxlState, KnownPointState, RouteState, Commands, Input, stepped, StepSoFar, all_below, begun_with, empty_outbox, giving_move, known_point_after, Need, Row, Table, is_held_with_authority, is_known, is_point_available, Command, Phase, IsTableOf, PeerState, Node, Point, SitedTable}
 use Rattle.simulator_recovery.proofs.Words.Stations.{Places, Site, interlocking_stepped, key_of, WorldState, Once, IsStation, Event, Flowing, point_link, IsReached}
 use Rattle.simulator_recovery.proofs.Words.Recovery.{HasCounted, IsOccupancy, ClientHasSaid, IsReadyOn, good_rounds, LawsBelow}
-use Rattle.simulator_recovery.proofs.Lemmas.Ground.AspectCalls.{hears, ticks, closes}
+use Rattle.simulator_recovery.proofs.Lemmas.Ground.AspectCalls.{hears, ticks}
 use Rattle.simulator_recovery.proofs.Lemmas.RoutesGoing.AuthorityCancels.{command_counts}
 use Rattle.simulator_recovery.proofs.Lemmas.Ground.DueShapes.{one_keeps}
 use Rattle.simulator_recovery.proofs.Lemmas.Windows.FewItems.{GivenBy, GivesFew, Within}
@@ -120,7 +120,7 @@ after_once table items side moved client few up once = choose (is_outside client
 
 module _ (table : Table) (items : ℕ) (two : 2 ≤ items) where
   went_once : (old : KnownPointState) (side : Option Side) (client : ClientState) → Went old.client client → GivesOnce table items old → GivesOnce table items (known_point_after side old.moved client)
-  went_once old side client went is = after_once table items side old.moved client few (went.up is.up) (λ ready. by_old (is_ready old.client.stage) refl ready (went.up is.up (ready_inside client.stage ready)))
+  went_once old side client went is = after_once table items side old.moved client few went.up (λ ready. by_old (is_ready old.client.stage) refl ready (went.up (ready_inside client.stage ready)))
     where
       few : GivesFew true client
       few = went.few true is.few
@@ -145,8 +145,6 @@ module _ (table : Table) (items : ℕ) (two : 2 ≤ items) where
   once_keeps : (now : ℕ) → ClientsKeep now (GivesOnce table items)
   once_keeps now = record {
     clock = λ known is. went_once known known.side (clocked now known.client) (clock_went now known.client) is;
-    closes = λ known outbox is. went_once known known.side (closing_behind now (begun known.client outbox)).client
-        (done_went now known.client (closing_behind now (begun known.client outbox)) (closes outbox refl)) is;
     hears = λ known side bytes outbox is. went_once known side (hearing now bytes (begun known.client outbox)).client
         (done_went now known.client (hearing now bytes (begun known.client outbox)) (hears bytes outbox refl)) is;
     ticks = λ known outbox is. went_once known known.side (ticking now (begun known.client outbox)).client

@@ -2,8 +2,8 @@
 use Rattle.simulator_recovery.proofs.Words.Basics.{◌≡◌, ◌⊎◌, inl, inr, ℕ, ◌∙◌, Bool, true, List, length, Option, Some, None, slice_get, refl, sym, ap, subst, Contains}
 use Rattle.simulator_recovery.proofs.Words.Links.{OutboxState, reading, Key}
 use Rattle.simulator_recovery.proofs.Words.Controllers.{Aspect, Side}
-use Rattle.simulator_recovery.proofs.Words.Interlockings.{begun, hearing, ticking, count, ended, ending_authority, freed_by_cancel, freed_by_passage, freeing_by_cancel, freeing_by_passage, freeing_next, is_move_due, is_proceed_due, is_stop_due, moved, moving, moving_one, proceeding, ruled, withdrawing, withdrawn, IxlState, KnownPointState, KnownSignalState, RouteState, changed, Commands, Datagram, Input, Tick, addressed, all_clocked, clocked_known_point, detector_hearing, detector_ticking, given, known_point_hearing, known_point_ticking, known_signal_hearing, known_signal_ticking, looking, looking_by, looks, node_hearing, occupied_heard, stepped, ticked, watching, Detector, Node, Point, Signal, StepSoFar, detector_after, giving_aspect, giving_move, known_point_after, noted, with_detector, with_one, Need, Row, Table, is_signal_ready, Command, closing_behind, known_signal_closing, known_point_closing, detector_closing, noting}
-use Rattle.simulator_recovery.proofs.Lemmas.Ground.DueShapes.{along_keeps, along_within, one_keeps, over_keeps, repeated_keeps, route_keeps, where_keeps, closing_keeps, found_in, seen_in, seen_keeps}
+use Rattle.simulator_recovery.proofs.Words.Interlockings.{begun, hearing, ticking, count, ended, ending_authority, freed_by_cancel, freed_by_passage, freeing_by_cancel, freeing_by_passage, freeing_next, is_move_due, is_proceed_due, is_stop_due, moved, moving, moving_one, proceeding, ruled, withdrawing, withdrawn, IxlState, KnownPointState, KnownSignalState, RouteState, changed, Commands, Datagram, Input, Tick, addressed, all_clocked, clocked_known_point, detector_hearing, detector_ticking, given, known_point_hearing, known_point_ticking, known_signal_hearing, known_signal_ticking, looking, looking_by, looks, node_hearing, occupied_heard, stepped, ticked, watching, Detector, Node, Point, Signal, StepSoFar, detector_after, giving_aspect, giving_move, known_point_after, noted, over, with_detector, with_one, Need, Row, Table, is_signal_ready, Command}
+use Rattle.simulator_recovery.proofs.Lemmas.Ground.DueShapes.{along_keeps, along_within, one_keeps, over_keeps, repeated_keeps, route_keeps, where_keeps}
 use Rattle.simulator_recovery.proofs.Lemmas.Lamps.GivenNoMore.{NoCommand}
 use Rattle.simulator_recovery.proofs.Lemmas.Ground.IxlClients.{changed_at, mapped_at}
 use Rattle.simulator_recovery.proofs.Lemmas.RoutesComing.NothingDueMoves.{move_leaves}
@@ -26,10 +26,9 @@ module _ (point : ℕ) (P : KnownPointState → Type 0) where
   pub there_too : (place : ℕ) (points : List KnownPointState) (known : KnownPointState) → slice_get points place ≡ Some known → OfPoints points → point ≡ place → P known
   there_too place points known e is same = is known (ap (slice_get points) same ∙ e)
 
--- what is kept where time passes, where the point's link isn't caught up any more and is closed, and where its client hears or ticks
+-- what is kept where time passes, and where the point's client hears or ticks
 pub record ClientsKeep (now : ℕ) (P : KnownPointState → Type 0) : Type 0 where
   pub clock : (known : KnownPointState) → P known → P (clocked_known_point now known)
-  pub closes : (known : KnownPointState) (outbox : OutboxState) → P known → P (known_point_after known.side known.moved (closing_behind now (begun known.client outbox)).client)
   pub hears : (known : KnownPointState) (side : Option Side) (bytes : List ℕ) (outbox : OutboxState) → P known
       → P (known_point_after side known.moved (hearing now bytes (begun known.client outbox)).client)
   pub ticks : (known : KnownPointState) (outbox : OutboxState) → P known → P (known_point_after known.side known.moved (ticking now (begun known.client outbox)).client)
@@ -50,22 +49,6 @@ module _ (now point : ℕ) (P : KnownPointState → Type 0) (clients : ClientsKe
   clocked_on part is known e =
       let found = mapped_at (clocked_known_point now) part.ixl.known_points point known e
       in subst P (sym found.2) (clients.clock found.0 (is found.0 found.1))
-
-  signal_closes_on : (place : ℕ) (part : StepSoFar) → Here part → Here (known_signal_closing now place part)
-  unfolding known_signal_closing
-  signal_closes_on place part is = one_keeps Here (slice_get part.ixl.known_signals place) _ part (λ known e. is) is
-
-  point_closes_on : (place : ℕ) (part : StepSoFar) → Here part → Here (known_point_closing now place part)
-  unfolding known_point_closing
-  point_closes_on place part is = one_keeps Here (slice_get part.ixl.known_points place) _ part (λ known e.
-      here point P place _ part.ixl.known_points (λ same. clients.closes known part.outbox (there_too point P place part.ixl.known_points known e is same)) is) is
-
-  detector_closes_on : (place : ℕ) (part : StepSoFar) → Here part → Here (detector_closing now place part)
-  unfolding detector_closing
-  detector_closes_on place part is = one_keeps Here (slice_get part.ixl.detectors place) _ part (λ known e. is) is
-
-  pub found_on : (part : StepSoFar) → Here part → Here (found_in now part)
-  found_on part is = closing_keeps Here now signal_closes_on point_closes_on detector_closes_on (record part { ixl = all_clocked now part.ixl }) (clocked_on part is)
 
   aspect_on : (signal : ℕ) (aspect : Aspect) (part : StepSoFar) → Here part → Here (giving_aspect now signal aspect part)
   unfolding giving_aspect
@@ -125,19 +108,15 @@ module _ (now point : ℕ) (P : KnownPointState → Type 0) (clients : ClientsKe
   unfolding watching
   watching_on table number part is = route_keeps Here table number _ part (λ row one there at. where_keeps Here _ part _ (λ due. is) is) is
 
-  noting_on : (table : Table) (number : ℕ) (part : StepSoFar) → Here part → Here (noting now table number part)
-  unfolding noting
-  noting_on table number part is = route_keeps Here table number _ part (λ row one there at. where_keeps Here _ part _ (λ due. is) is) is
-
-  pub until_moves_on : (table : Table) (part : StepSoFar) → Here part → Here (freed_by_cancel now table (seen_in now table part))
+  pub until_moves_on : (table : Table) (part : StepSoFar) → Here part → Here (freed_by_cancel now table (over (watching table) (count table) part))
   until_moves_on table part is =
       over_keeps Here (freeing_by_cancel now table) (cancel_on table) (count table) (freed_by_passage now table seen)
       (over_keeps Here (freeing_by_passage table) (passage_on table) (count table) (ended now table seen)
       (over_keeps Here (ending_authority now table) (ending_on table) (count table) (withdrawn now table seen)
-      (over_keeps Here (withdrawing now table) (withdrawing_on table) (count table) seen (seen_keeps Here now table (watching_on table) (noting_on table) part is))))
+      (over_keeps Here (withdrawing now table) (withdrawing_on table) (count table) seen (over_keeps Here (watching table) (watching_on table) (count table) part is))))
     where
       seen : StepSoFar
-      seen = seen_in now table part
+      seen = over (watching table) (count table) part
 
   proceeding_on : (table : Table) (number : ℕ) (part : StepSoFar) → Here part → Here (proceeding now table number part)
   unfolding proceeding
@@ -202,14 +181,14 @@ module _ (now point : ℕ) (P : KnownPointState → Type 0) (clients : ClientsKe
         over_held now table Q kept.rules (freeing_by_cancel now table) (cancel_held now table Q kept.rules) (count table) (freed_by_passage now table seen)
             (over_held now table Q kept.rules (freeing_by_passage table) (passage_held now table Q kept.rules) (count table) (ended now table seen)
             (both_rules now table NoCommand Q kept seen (watched_held now table NoCommand Q kept key input part no_command so))),
-        until_moves_on table (given now table key input begun_part) (given_on table key input begun_part no_command (found_on part is)),
+        until_moves_on table (given now table key input begun_part) (given_on table key input begun_part no_command (clocked_on part is)),
       )).1
         where
           begun_part : StepSoFar
-          begun_part = found_in now part
+          begun_part = record part { ixl = all_clocked now part.ixl }
 
           seen : StepSoFar
-          seen = seen_in now table (given now table key input begun_part)
+          seen = over (watching table) (count table) (given now table key input begun_part)
 
           freed : StepSoFar
           freed = freed_by_cancel now table seen

@@ -2,18 +2,13 @@
 use Rattle.simulator_recovery.proofs.Words.Basics.{◌≡◌, ◌≢◌, ◌⊎◌, inl, inr, ℕ, Bool, true, false, if◌then◌else◌, List, Option, Some, None, slice_get, refl, sym, ap, subst, ◌∙◌, empty, false≢true, same_Some}
 use Rattle.simulator_recovery.proofs.Words.Links.{settled, reading_of, is_up, reading as pdu_reading, Key}
 use Rattle.simulator_recovery.proofs.Words.Controllers.{Protocol, Side}
-use Rattle.simulator_recovery.proofs.Words.Interlockings.{ClientState, is_available, is_outside, ClientSoFar, begun, clocked, hearing, Indication, Stage, count, IxlState, KnownPointState, Commands, Datagram, Input, Tick, addressed, clocked_known_point, detector_hearing, given, known_point_hearing, known_signal_hearing, looking, looking_by, looks, node_hearing, occupied_heard, side_heard, Detector, Node, Point, Signal, StepSoFar, begun_with, detector_after, empty_outbox, known_point_after, noted, with_detector, with_one, Table, was_authorised, Command}
+use Rattle.simulator_recovery.proofs.Words.Interlockings.{ClientState, is_available, is_outside, ClientSoFar, begun, clocked, hearing, Indication, Stage, count, IxlState, KnownPointState, Commands, Datagram, Input, Tick, addressed, all_clocked, clocked_known_point, detector_hearing, given, known_point_hearing, known_signal_hearing, looking, looking_by, looks, node_hearing, occupied_heard, side_heard, Detector, Node, Point, Signal, StepSoFar, begun_with, detector_after, empty_outbox, known_point_after, noted, with_detector, with_one, Table, was_authorised, Command}
 use Rattle.simulator_recovery.proofs.Words.Stations.{Places, Site, key_of, WorldState, IsReached}
-use Rattle.simulator_recovery.proofs.Words.Recovery.{known_in_step, ClientStandsByCounts}
-use Rattle.simulator_recovery.proofs.Lemmas.RoutesComing.DueKnown.{HearsNothing, always_speak, is_completed, point_hears, still_clocked, available_inside, clients_stand, point_speaks}
-use Rattle.simulator_recovery.proofs.Lemmas.Ground.DueShapes.{along_keeps, one_keeps, over_keeps, route_keeps, where_keeps, found_in}
+use Rattle.simulator_recovery.proofs.Words.Recovery.{known_in_step}
+use Rattle.simulator_recovery.proofs.Lemmas.Ground.AtLink.{mapped}
+use Rattle.simulator_recovery.proofs.Lemmas.RoutesComing.DueKnown.{HearsNothing, always_speak, is_completed, point_clocked, point_hears, still_clocked, available_inside}
+use Rattle.simulator_recovery.proofs.Lemmas.Ground.DueShapes.{along_keeps, one_keeps, over_keeps, route_keeps, where_keeps}
 use Rattle.simulator_recovery.proofs.Lemmas.Ground.IxlSoFar.{set_at}
-use Rattle.simulator_recovery.proofs.Lemmas.Ground.FoundIxl.{found_point, point_there}
-use Rattle.simulator_recovery.proofs.Lemmas.Ground.FoundClients.{by_closing, shut}
-use Rattle.simulator_recovery.proofs.Lemmas.Ground.GoneClients.{IsGone, gone_outside, shut_gone}
-use Rattle.simulator_recovery.proofs.Lemmas.Ground.IxlClients.{point_client}
-use Rattle.simulator_recovery.proofs.Lemmas.Points.GonePoints.{given_gone}
-use Rattle.simulator_recovery.proofs.Lemmas.Talk.ClientLinks.{ClockedStands, clocked_stands}
 
 -- A point awaits no report, and is known at the same side, if any, as another, and moved for the same routes.
 pub record IsSame (was known : KnownPointState) : Type 0 where
@@ -63,25 +58,6 @@ same_clocked now known up available = choose (is_outside after.stage) refl
     choose : (b : Bool) → is_outside after.stage ≡ b → IsSame known (if b then none else some)
     choose true e = absurd (false≢true (sym (available_inside after.stage same) ∙ e))
     choose false e = record { available = same; side = refl; moved = refl }
-
--- and where its link isn't caught up any more, it was closed
-one_same : (now : ℕ) (was : KnownPointState) → ClientStandsByCounts was.client → is_up (settled now was.client.link).phase ≡ true → is_available was.client.stage ≡ true → IsSame was (found_point now was) ⊎ IsGone now (found_point now was).client
-one_same now was stands up available = by_closing (λ (x : ClientState). IsSame was (known_point_after c.side c.moved x) ⊎ IsGone now (known_point_after c.side c.moved x).client) now c.client
-    (λ behind. inr (subst (IsGone now) (sym (point_client c.side c.moved (shut now c.client))) (shut_gone now c.client clocked_so behind))) (λ calm. inl as_it_was)
-  where
-    c : KnownPointState
-    c = clocked_known_point now was
-
-    clocked_so : ClockedStands now c.client
-    clocked_so = subst (ClockedStands now) (sym (point_client was.side was.moved (clocked now was.client))) (clocked_stands now was.client stands)
-
-    same : IsSame was c
-    same = same_clocked now was up available
-
-    as_it_was : IsSame was (known_point_after c.side c.moved c.client)
-    as_it_was =
-        let kept = after_keeps c.side c.moved c.client (ap (λ (x : ClientState). is_outside x.stage) (point_client c.side c.moved c.client) ∙ available_inside c.client.stage same.available)
-        in record { available = ap (λ (x : ClientState). is_available x.stage) kept.client_is ∙ same.available; side = kept.side_is ∙ same.side; moved = kept.moved_is ∙ same.moved }
 
 -- ---- what is heard
 
@@ -153,18 +129,12 @@ module _ (now : ℕ) (table : Table) (point : ℕ) (was : KnownPointState) where
 pub same_heard : (site : Site) (table : Table) (input : Input) (world : WorldState) (point : ℕ) (was : KnownPointState) → IsReached site table world → ((command : Command) → input ≡ Commands command → ⊥)
     → slice_get world.interlocking.ixl.known_points point ≡ Some was → is_available was.client.stage ≡ true → is_up (settled (reading_of world.interlocking.clock) was.client.link).phase ≡ true
     → SameInside point was (known_in_step site table input world)
-same_heard site table input world point was reached none there available up = by_found (one_same now was ((clients_stand site table world reached).points point was there).stands up available)
+unfolding all_clocked
+same_heard site table input world point was reached none there available up = given_inside now table point was start (point_clocked now world.interlocking.ixl (always_speak site table world reached))
+    (clocked_known_point now was) (mapped (clocked_known_point now) world.interlocking.ixl.known_points point was there) (same_clocked now was up available) (key_of site) input none
   where
     now : ℕ
     now = reading_of world.interlocking.clock
 
-    part : StepSoFar
-    part = begun_with world.interlocking.ixl empty_outbox
-
-    found_there : slice_get (found_in now part).ixl.known_points point ≡ Some (found_point now was)
-    found_there = point_there now part point was there
-
-    by_found : IsSame was (found_point now was) ⊎ IsGone now (found_point now was).client → SameInside point was (known_in_step site table input world)
-    by_found (inl same) known e inside = given_inside now table point was (found_in now part) (point_speaks now part (always_speak site table world reached)) (found_point now was) found_there same (key_of site) input none known e inside
-    by_found (inr gone) known e inside =
-        absurd (gone_outside now known.client (given_gone now point table (key_of site) input (found_in now part) (λ other f. subst (λ (x : KnownPointState). IsGone now x.client) (same_Some (found_point now was) other (sym found_there ∙ f)) gone) known e) inside)
+    start : StepSoFar
+    start = begun_with (all_clocked now world.interlocking.ixl) empty_outbox

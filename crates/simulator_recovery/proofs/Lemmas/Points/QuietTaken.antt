@@ -1,7 +1,7 @@
 -- What the client of a detector has taken grows, event by event: where its link is up after an event, it has taken what it had before, and perhaps more.
-use Rattle.simulator_recovery.proofs.Words.Basics.{◌≡◌, ◌≢◌, ◌⊎◌, inl, inr, ℕ, ◌∙◌, true, false, List, [], ◌++◌, append-nil, map, Some, None, slice_get, refl, sym, ap, subst, false≢true, ◌∷◌}
-use Rattle.simulator_recovery.proofs.Words.Links.{created, receiving, Call, Receives, reading_of, Links, MayCallOn, run_links, OutboxState, LinkState, is_up, all_made, made_by, Reason}
-use Rattle.simulator_recovery.proofs.Words.Interlockings.{IsTableOf, ClientState, new_client, ClientSoFar, LinkCall, as_call, begun, MakesAfterReceipt, MakesOwn, link_after, hearing, ticking, IxlState, KnownDetectorState, changed, clocked_detector, Detector, Node, Point, Signal, StepSoFar, begun_with, empty_outbox, Table, Closes, closing_behind, detector_after}
+use Rattle.simulator_recovery.proofs.Words.Basics.{◌≡◌, ◌≢◌, ◌⊎◌, inl, inr, ℕ, ◌∙◌, true, false, List, [], ◌++◌, append-nil, map, Some, None, slice_get, refl, sym, ap, subst, false≢true}
+use Rattle.simulator_recovery.proofs.Words.Links.{created, receiving, Call, Receives, reading_of, Links, MayCallOn, run_links, OutboxState, LinkState, is_up, all_made, made_by}
+use Rattle.simulator_recovery.proofs.Words.Interlockings.{IsTableOf, ClientState, new_client, ClientSoFar, LinkCall, as_call, begun, MakesAfterReceipt, MakesOwn, link_after, hearing, ticking, IxlState, KnownDetectorState, changed, clocked_detector, Detector, Node, Point, Signal, StepSoFar, begun_with, empty_outbox, Table}
 use Rattle.simulator_recovery.proofs.Words.Stations.{Site, Event, Deliver, NodeId, Beginning, new_detector_of, new_ixl, happens, interlocking_step, AreLinksOf, names_at, connection_of, copy_of, refusal, detector_link, key_of, WorldState, events_of, interlocking_events}
 use Rattle.simulator_recovery.proofs.Words.Machine.{taken_after}
 use Rattle.simulator_recovery.proofs.Words.Recovery.{LawsBelow}
@@ -13,9 +13,8 @@ use Rattle.simulator_recovery.proofs.Lemmas.Ground.IxlClients.{mapped_at}
 use Rattle.simulator_recovery.proofs.Lemmas.Ground.IxlSoFar.{at_itself, at_node, at_other, is_node, other_place, set_at}
 use Rattle.simulator_recovery.proofs.Lemmas.Ground.EndCalls.{map_both}
 use Rattle.simulator_recovery.proofs.Lemmas.Sections.SectionsClient.{after_both, after_client, link_is_made, own_keeps}
-use Rattle.simulator_recovery.proofs.Lemmas.Sections.SectionsIxl.{SectionsKeep, heard_by, step_held, ticked_by, closed_by}
+use Rattle.simulator_recovery.proofs.Lemmas.Sections.SectionsIxl.{SectionsKeep, heard_by, step_held, ticked_by}
 use Rattle.simulator_recovery.proofs.Lemmas.Talk.StationTalk.{Before, SameLists, Talking, before, clocked_link, took, took_behind_step}
-use Rattle.simulator_recovery.proofs.Lemmas.Ground.FoundClients.{by_calls, shut, shut_link}
 
 -- ---- one of the detectors, with the calls of its link
 
@@ -57,18 +56,8 @@ module _ (laws : LawsBelow) (now connection place : ℕ) (link : LinkState) (had
 
   -- where the clock alone has acted
   pub record AtClock (known : KnownDetectorState) (calls : List LinkCall) : Type 0 where
-    pub link_is : known.client.link ≡ (all_made now (map (as_call connection) calls) link).link
-    pub taken_is : so_far calls ≡ had
-
-  -- and a link that isn't caught up any more was closed
-  closes_here : (known : KnownDetectorState) (outbox : OutboxState) (calls : List LinkCall) → AtClock known calls → AtClock (closed_by now known outbox) (calls ++ (closing_behind now (begun known.client outbox)).calls)
-  unfolding link_after taken_after made_by
-  closes_here known outbox calls c = by_calls (λ (x : ClientState) (cs : List LinkCall). AtClock (detector_after known.occupied x) cs) now known.client outbox calls
-      (λ behind. record {
-        link_is = ap (λ (x : ClientState). x.link) (after_client known.occupied (shut now known.client)) ∙ link_behind calls (Closes Reason.User ∷ []) known.client.link (shut now known.client).link c.link_is (shut_link now known.client);
-        taken_is = so_far_behind calls (Closes Reason.User ∷ []) known.client.link c.link_is ∙ c.taken_is;
-      })
-      (λ calm. record { link_is = ap (λ (x : ClientState). x.link) (after_client known.occupied known.client) ∙ c.link_is; taken_is = c.taken_is })
+    pub none : calls ≡ []
+    pub link_is : known.client.link ≡ link
 
   -- a client that is up has taken what it had, and perhaps more
   pub record Grows (known : KnownDetectorState) (calls : List LinkCall) : Type 0 where
@@ -76,15 +65,15 @@ module _ (laws : LawsBelow) (now connection place : ℕ) (link : LinkState) (had
     pub grows : is_up known.client.link.phase ≡ true → (more : List (List ℕ)) × (so_far calls ≡ had ++ more)
 
   still_grows : (known : KnownDetectorState) (calls : List LinkCall) → AtClock known calls → Grows known calls
-  still_grows known calls c = record { link_is = c.link_is; grows = λ up. ([], c.taken_is ∙ sym (append-nil had)) }
+  unfolding all_made taken_after
+  still_grows known calls c = subst (Grows known) (sym c.none) (record { link_is = c.link_is; grows = λ up. ([], sym (append-nil had)) })
 
   -- a datagram that comes first
-  heard_here : (known : KnownDetectorState) (bytes : List ℕ) (outbox : OutboxState) (calls : List LinkCall) → AtClock known calls
-      → Grows (heard_by now bytes known outbox) (calls ++ (hearing now bytes (begun known.client outbox)).calls)
+  hears_grows : (known : KnownDetectorState) (bytes : List ℕ) (outbox : OutboxState) → AtClock known [] → Grows (heard_by now bytes known outbox) (hearing now bytes (begun known.client outbox)).calls
   unfolding link_after taken_after made_by
-  heard_here known bytes outbox calls c = record {
-    link_is = ap (λ (x : ClientState). x.link) same_client ∙ link_behind calls done.calls known.client.link done.client.link c.link_is (made.1.link_is
-        ∙ ap (λ (cs : List LinkCall). link_after now cs known.client.link) (sym made.1.calls_are));
+  hears_grows known bytes outbox c = record {
+    link_is = ap (λ (x : ClientState). x.link) same_client ∙ (made.1.link_is ∙ (ap (λ (cs : List LinkCall). link_after now cs known.client.link) (sym made.1.calls_are)
+        ∙ (link_is_made now connection done.calls known.client.link ∙ ap (λ (l : LinkState). (all_made now (map (as_call connection) done.calls) l).link) c.link_is)));
     grows = λ up. (items, taken_is (ap (λ (x : ClientState). is_up x.link.phase) (sym same_client) ∙ up));
   }
     where
@@ -100,11 +89,15 @@ module _ (laws : LawsBelow) (now connection place : ℕ) (link : LinkState) (had
       same_client : (heard_by now bytes known outbox).client ≡ done.client
       same_client = after_client _ done.client
 
-      taken_is : is_up done.client.link.phase ≡ true → so_far (calls ++ done.calls) ≡ had ++ items
-      taken_is up = so_far_behind calls done.calls known.client.link c.link_is
-          ∙ (ap (λ (cs : List LinkCall). taken_after now (map (as_call connection) cs) known.client.link (so_far calls)) made.1.calls_are
-          ∙ ((own_keeps now connection made.0 made.2 (receiving now bytes known.client.link).link (so_far calls ++ items) (ap (λ (l : LinkState). is_up l.phase) (sym made.1.link_is) ∙ up)).1
-          ∙ ap (λ (list : List (List ℕ)). list ++ items) c.taken_is))
+      taken_is : is_up done.client.link.phase ≡ true → so_far done.calls ≡ had ++ items
+      taken_is up = ap (λ (l : LinkState). taken_after now (map (as_call connection) done.calls) l had) (sym c.link_is)
+          ∙ (ap (λ (cs : List LinkCall). taken_after now (map (as_call connection) cs) known.client.link had) made.1.calls_are
+          ∙ (own_keeps now connection made.0 made.2 (receiving now bytes known.client.link).link (had ++ items) (ap (λ (l : LinkState). is_up l.phase) (sym made.1.link_is) ∙ up)).1)
+
+  heard_here : (known : KnownDetectorState) (bytes : List ℕ) (outbox : OutboxState) (calls : List LinkCall) → AtClock known calls
+      → Grows (heard_by now bytes known outbox) (calls ++ (hearing now bytes (begun known.client outbox)).calls)
+  heard_here known bytes outbox calls c = subst (λ (cs : List LinkCall). Grows (heard_by now bytes known outbox) (cs ++ (hearing now bytes (begun known.client outbox)).calls)) (sym c.none)
+      (hears_grows known bytes outbox (subst (AtClock known) c.none c))
 
   -- a tick
   ticks_grows : (known : KnownDetectorState) (outbox : OutboxState) (calls : List LinkCall) → Grows known calls → Grows (ticked_by now known outbox) (calls ++ (ticking now (begun known.client outbox)).calls)
@@ -135,10 +128,6 @@ module _ (laws : LawsBelow) (now connection place : ℕ) (link : LinkState) (had
 
   pub keep : SectionsKeep now (OfDetector place AtClock) (OfDetector place Grows)
   keep = record {
-    closes = λ k known outbox detectors calls e all. changed_detector place AtClock k (closed_by now known outbox) (closing_behind now (begun known.client outbox)).calls detectors calls
-        (λ same. closes_here known outbox (at_node (Detector place) calls) (all known (ap (slice_get detectors) same ∙ e))) all;
-    signal_closes = λ k more detectors calls all. other_calls place AtClock (Signal k) refl more detectors calls all;
-    point_closes = λ k more detectors calls all. other_calls place AtClock (Point k) refl more detectors calls all;
     weaker = λ detectors calls all known e. still_grows known (at_node (Detector place) calls) (all known e);
     hears = λ k known bytes outbox detectors calls e all. changed_detector place Grows k (heard_by now bytes known outbox) (hearing now bytes (begun known.client outbox)).calls detectors calls
         (λ same. heard_here known bytes outbox (at_node (Detector place) calls) (all known (ap (slice_get detectors) same ∙ e)))
@@ -195,11 +184,11 @@ module _ (clients : LawsBelow) (laws : LawsBelow) (site : Site) (table : Table) 
         given.talking.speaks given.talking.talk).detectors place known e
 
     clocked_all : OfDetector place (AtClock clients now connection place link (took network at)) (map (clocked_detector now) world.interlocking.ixl.detectors) []
-    unfolding at_node all_made taken_after
+    unfolding at_node
     clocked_all known e =
         let found = mapped_at (clocked_detector now) world.interlocking.ixl.detectors place known e
         in subst (λ (k : KnownDetectorState). AtClock clients now connection place link (took network at) k []) (sym found.2) (record {
-          taken_is = refl;
+          none = refl;
           link_is = ap (λ (c : ClientState). c.link) (after_client _ _) ∙ (clocked_link now found.0.client ∙ (before_it found.0 found.1).link_is);
         })
 

@@ -15,16 +15,14 @@ use Rattle.simulator_recovery.proofs.Lemmas.Talk.ClientLinks.{clocked_peer}
 use Rattle.simulator_recovery.proofs.Lemmas.RoutesComing.DueGiven.{agreed, waits_there}
 use Rattle.simulator_recovery.proofs.Lemmas.RoutesComing.HeldNeeds.{Holder, at_moves, heard_in, holder, in_order_of, routes_apart}
 use Rattle.simulator_recovery.proofs.Lemmas.RoutesComing.DueRoutes.{PointsApart}
-use Rattle.simulator_recovery.proofs.Lemmas.Ground.DueShapes.{along_within, over_keeps, route_keeps, where_keeps, found_in}
+use Rattle.simulator_recovery.proofs.Lemmas.Ground.DueShapes.{along_within, over_keeps, route_keeps, where_keeps}
 use Rattle.simulator_recovery.proofs.Lemmas.Ground.IxlClients.{mapped_at, point_client}
 use Rattle.simulator_recovery.proofs.Lemmas.Ground.IxlSoFar.{at_node}
 use Rattle.simulator_recovery.proofs.Lemmas.RoutesComing.NothingDueMoves.{move_leaves}
 use Rattle.simulator_recovery.proofs.Lemmas.RoutesComing.NothingDueStops.{HoldsEach, holds_each}
-use Rattle.simulator_recovery.proofs.Lemmas.Points.SidesStep.{stands, Gone, On, behind_moves_on, given_on, move_on, so_far, until_moves_on, found_on as finds_on}
+use Rattle.simulator_recovery.proofs.Lemmas.Points.SidesStep.{stands, Gone, On, behind_moves_on, given_on, move_on, so_far, until_moves_on}
 use Rattle.simulator_recovery.proofs.Lemmas.Points.SidesRoutes.{given_back, until_moves}
 use Rattle.simulator_recovery.proofs.Lemmas.Talk.StationTalk.{SameLists, TalkOf, before, clocked_link, gave, gave_behind_step}
-use Rattle.simulator_recovery.proofs.Lemmas.Ground.FoundIxl.{found_client, found_routes, point_at as found_point_at, point_found}
-use Rattle.simulator_recovery.proofs.Lemmas.Ground.FoundClients.{by_closing, shut_so}
 
 -- ---- at the clock of a step
 
@@ -43,10 +41,6 @@ clocked_busy now client awaits = choose (is_up (settled now client.link).phase)
     choose true e = false≢true (ap is_available (sym awaits) ∙ e)
     choose false e = false≢true e
 
-found_busy : (now : ℕ) (client : ClientState) → client.stage ≡ Stage.AwaitsReport → is_available (found_client now client).stage ≡ true → ⊥
-found_busy now client awaits = by_closing (λ (c : ClientState). is_available c.stage ≡ true → ⊥) now (clocked now client)
-    (λ behind available. false≢true (sym (ap is_available (shut_so now (clocked now client)).stage_is) ∙ available)) (λ calm. clocked_busy now client awaits)
-
 -- ---- a step
 
 module _ (laws : LawsBelow) (move : MoveLaw) (request : RequestLaw) (site : Site) (table : Table) (is_table : IsTableOf site table) (input : ixl.Input) (connection : ℕ) (world : WorldState) (network : Links)
@@ -56,11 +50,8 @@ module _ (laws : LawsBelow) (move : MoveLaw) (request : RequestLaw) (site : Site
   abbrev now : ℕ
   now = reading_of world.interlocking.clock
 
-  abbrev begins : StepSoFar
-  begins = begun_with world.interlocking.ixl empty_outbox
-
-  abbrev found_part : StepSoFar
-  found_part = found_in now begins
+  abbrev clocked_part : StepSoFar
+  clocked_part = begun_with (all_clocked now world.interlocking.ixl) empty_outbox
 
   abbrev done : StepSoFar
   done = interlocking_step site table input world.interlocking
@@ -75,7 +66,7 @@ module _ (laws : LawsBelow) (move : MoveLaw) (request : RequestLaw) (site : Site
     abbrev GoneSo : ClientState → List LinkCall → Type 0
     GoneSo = Gone site now connection point side world.interlocking.ixl.known_points link (gave network (point_link site point))
 
-    clocked_on : Onward (record begins { ixl = all_clocked now begins.ixl })
+    clocked_on : Onward clocked_part
     unfolding all_clocked at_node all_made given_after
     clocked_on known e = subst (λ (k : KnownPointState). GoneSo k.client []) (sym found.2) (subst (λ (c : ClientState). GoneSo c []) (sym (point_client _ _ _)) gone)
       where
@@ -105,21 +96,18 @@ module _ (laws : LawsBelow) (move : MoveLaw) (request : RequestLaw) (site : Site
     is_held = holder move request site table is_table world reached input point side held
 
     -- a set route holds the point, and held it before: so no command moves it
-    unmoved : (place : PointId) (to : Side) → input ≡ ixl.Commands (Command.Move place to) → refusal now table (Command.Move place to) found_part.ixl ≡ None → place.0 ≡ point → ⊥
+    unmoved : (place : PointId) (to : Side) → input ≡ ixl.Commands (Command.Move place to) → refusal now table (Command.Move place to) clocked_part.ixl ≡ None → place.0 ≡ point → ⊥
     unmoved place to is none same =
         let was = until_moves request now table point side (heard_in site table input world) (is_held.number, is_held.row, is_held.route, (is_held.row_there, is_held.there), is_held.held)
         in let need = was.4.1.0
-        in held_unmoved now table found_part.ixl was.0 was.1 was.2 need was.3.0 (ap (λ (routes : List RouteState). slice_get routes was.0) (sym (move_leaves_routes now table (key_of site) place to input found_part is)) ∙ was.3.1)
+        in held_unmoved now table clocked_part.ixl was.0 was.1 was.2 need was.3.0 (ap (λ (routes : List RouteState). slice_get routes was.0) (sym (move_leaves_routes now table (key_of site) place to input clocked_part is)) ∙ was.3.1)
         was.4.1.1 was.4.0 was.4.1.4 place to (same ∙ sym was.4.1.2) none
-
-    found_on : Onward found_part
-    found_on = finds_on site now connection point side world.interlocking.ixl.known_points link (gave network (point_link site point)) begins clocked_on
 
     start_on : Onward start
     start_on = until_moves_on site now connection point side world.interlocking.ixl.known_points link (gave network (point_link site point)) table (heard_in site table input world)
-        (given_on site now connection point side world.interlocking.ixl.known_points link (gave network (point_link site point)) table (key_of site) input found_part
+        (given_on site now connection point side world.interlocking.ixl.known_points link (gave network (point_link site point)) table (key_of site) input clocked_part
         (λ place to part is none on. move_on site now connection point side world.interlocking.ixl.known_points link (gave network (point_link site point)) place.0 to part
-        (λ known same. absurd (unmoved place to is none (sym same))) on) found_on)
+        (λ known same. absurd (unmoved place to is none (sym same))) on) clocked_on)
 
     -- ---- the fifth rule
 
@@ -146,15 +134,16 @@ module _ (laws : LawsBelow) (move : MoveLaw) (request : RequestLaw) (site : Site
     -- ---- what is held was held
 
     held_before : (old : KnownPointState) → slice_get world.interlocking.ixl.known_points point ≡ Some old → old.client.stage ≡ Stage.AwaitsReport → IsHeldAt table world.interlocking.ixl point side
-    held_before old there awaits = subst (λ (routes : List RouteState). IsHeldAt table (record world.interlocking.ixl { routes = routes }) point side) (found_routes now begins)
-        (given_back request now table point side found_part busy (key_of site) input (until_moves request now table point side (heard_in site table input world) (is_held.number, is_held.row, is_held.route, (is_held.row_there, is_held.there), is_held.held)))
+    unfolding all_clocked
+    held_before old there awaits = given_back request now table point side clocked_part busy (key_of site) input
+        (until_moves request now table point side (heard_in site table input world) (is_held.number, is_held.row, is_held.route, (is_held.row_there, is_held.there), is_held.held))
       where
-        busy : IsAvailable found_part.ixl point → ⊥
+        busy : IsAvailable clocked_part.ixl point → ⊥
         busy available =
-            let found = found_point_at now begins point available.0 available.1
+            let found = mapped_at (clocked_known_point now) world.interlocking.ixl.known_points point available.0 available.1
             in let same : found.0 ≡ old = same_Some found.0 old (sym found.1 ∙ there)
-            in found_busy now found.0.client (ap (λ (k : KnownPointState). k.client.stage) same ∙ awaits)
-            (ap (λ (c : ClientState). is_available c.stage) (sym (ap (λ (k : KnownPointState). k.client) found.2 ∙ point_found now found.0)) ∙ available.2)
+            in clocked_busy now found.0.client (ap (λ (k : KnownPointState). k.client.stage) same ∙ awaits)
+            (ap (λ (c : ClientState). is_available c.stage) (sym (ap (λ (k : KnownPointState). k.client) found.2 ∙ point_client _ _ _)) ∙ available.2)
 
     goes_so : (known : KnownPointState) → slice_get done.ixl.known_points point ≡ Some known → known.client.stage ≡ Stage.AwaitsReport
         → IsLast (commanded known.client.peer (Move side)) (gave (run_links (interlocking_events site table input connection world.interlocking) network) (point_link site point))

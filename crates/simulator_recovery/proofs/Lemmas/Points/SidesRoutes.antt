@@ -2,11 +2,11 @@
 use Rattle.simulator_recovery.proofs.Words.Basics.{◌≡◌, ◌⊎◌, inl, inr, ℕ, ◌<◌, true, List, Option, Some, None, slice_get, refl, sym, ap, subst, ◌∙◌, Contains, same_Some}
 use Rattle.simulator_recovery.proofs.Words.Links.{reading, Key}
 use Rattle.simulator_recovery.proofs.Words.Controllers.{Side}
-use Rattle.simulator_recovery.proofs.Words.Interlockings.{IsTableOf, commanded_by, obeyed, refusal, released_at, set_anew, Admissible, At, HoldsPoint, IsAvailable, IsHeldAt, count, ended, freed_by_cancel, freed_by_passage, freeing_by_cancel, freeing_by_passage, IxlState, RouteState, Commands, Datagram, Input, Tick, addressed, given, StepSoFar, Need, Row, Table, freed_sections, is_set, Command, Refusal, Phase, giving_move}
+use Rattle.simulator_recovery.proofs.Words.Interlockings.{IsTableOf, commanded_by, obeyed, refusal, released_at, set_anew, Admissible, At, HoldsPoint, IsAvailable, IsHeldAt, count, ended, freed_by_cancel, freed_by_passage, freeing_by_cancel, freeing_by_passage, IxlState, RouteState, Commands, Datagram, Input, Tick, addressed, given, watching, StepSoFar, over, Need, Row, Table, freed_sections, is_set, Command, Refusal, Phase, giving_move}
 use Rattle.simulator_recovery.proofs.Words.Stations.{Site, RouteId}
 use Rattle.simulator_recovery.proofs.Words.Recovery.{HasAspect, Waits, RequestLaw}
-use Rattle.simulator_recovery.proofs.Lemmas.RoutesComing.DueRoutes.{GoOnward, before, cancel_held, heard_at, passage_held, same_phase, two_rules, watching_held, noting_held}
-use Rattle.simulator_recovery.proofs.Lemmas.Ground.DueShapes.{over_keeps, one_keeps, seen_in, seen_keeps}
+use Rattle.simulator_recovery.proofs.Lemmas.RoutesComing.DueRoutes.{GoOnward, before, cancel_held, heard_at, passage_held, same_phase, two_rules, watching_held}
+use Rattle.simulator_recovery.proofs.Lemmas.Ground.DueShapes.{over_keeps, one_keeps}
 use Rattle.simulator_recovery.proofs.Lemmas.Ground.IxlClients.{changed_at}
 use Rattle.simulator_recovery.proofs.Lemmas.RoutesComing.NothingDueStops.{holds_each}
 use Rattle.simulator_recovery.proofs.Lemmas.Ground.MovedAtOnce.{moved_keeps}
@@ -25,10 +25,10 @@ module _ (law : RequestLaw) (now : ℕ) (table : Table) (point : ℕ) (side : Si
         let was = before law now table number change routes goes held.0 held.1 held.2 held.3.0 held.3.1
         in back (held.0, held.1, was.was, (held.3.0, was.there), was.held point side held.4)
 
-  pub until_moves : (part : StepSoFar) → HeldIn (freed_by_cancel now table (seen_in now table part)).ixl.routes → HeldIn part.ixl.routes
+  pub until_moves : (part : StepSoFar) → HeldIn (freed_by_cancel now table (over (watching table) (count table) part)).ixl.routes → HeldIn part.ixl.routes
   until_moves part = over_keeps Q (freeing_by_cancel now table) (cancel_held now table B (onward Base)) (count table) (freed_by_passage now table seen)
       (over_keeps Q (freeing_by_passage table) (passage_held now table B (onward Base)) (count table) (ended now table seen)
-      (two_rules now table B (onward Base) seen (seen_keeps Q now table (watching_held now table B (onward Base)) (noting_held now table B (onward Base)) part (λ held. held))))
+      (two_rules now table B (onward Base) seen (over_keeps Q (watching table) (watching_held now table B (onward Base)) (count table) part (λ held. held))))
     where
       Base : Type 0
       Base = HeldIn part.ixl.routes
@@ -40,7 +40,7 @@ module _ (law : RequestLaw) (now : ℕ) (table : Table) (point : ℕ) (side : Si
       Q q = B q.ixl.routes
 
       seen : StepSoFar
-      seen = seen_in now table part
+      seen = over (watching table) (count table) part
 
   module _ (part : StepSoFar) (busy : IsAvailable part.ixl point → ⊥) where
     requested : (route : RouteId) → refusal now table (Command.Request route) part.ixl ≡ None → HeldIn (obeyed now (Command.Request route) part.ixl).routes → HeldIn part.ixl.routes

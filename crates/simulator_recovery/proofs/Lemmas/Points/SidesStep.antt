@@ -1,8 +1,8 @@
 -- What a point's client has given by each part of a step, where it awaits a report: what it had, or a move to a side last.
 use Rattle.simulator_recovery.proofs.Words.Basics.{◌≡◌, ℕ, ◌∙◌, Bool, true, false, List, [], ◌∷◌, ◌++◌, map, if◌then◌else◌, refl, sym, ap, false≢true, ◌⊎◌, inl, inr, Some, None, slice_get, subst}
-use Rattle.simulator_recovery.proofs.Words.Links.{opening, opens, receiving, ticking as link_ticking, beginning, requesting, OutboxState, beating, sending, is_up, all_made, Phase, LinkState, Key, made_by}
+use Rattle.simulator_recovery.proofs.Words.Links.{opening, opens, receiving, ticking as link_ticking, beginning, requesting, OutboxState, beating, sending, is_up, all_made, Phase, LinkState, Key}
 use Rattle.simulator_recovery.proofs.Words.Controllers.{Side}
-use Rattle.simulator_recovery.proofs.Words.Interlockings.{ClientState, PeerState, is_available, is_ready, ClientSoFar, LinkCall, Opens, Receives, Ticks, as_call, begun, calling, acting_all, at_stage, commanding, fallen, hearing, message_of, posting, rising, stage_after_command, ticking, Move, Stage, Signal, freed_by_cancel, moved, ruled, KnownPointState, Input, given, ticked, Point, StepSoFar, giving_move, Table, Command, Commands, refusal, all_clocked, closing_behind, watched}
+use Rattle.simulator_recovery.proofs.Words.Interlockings.{ClientState, PeerState, is_available, is_ready, ClientSoFar, LinkCall, Opens, Receives, Ticks, as_call, begun, calling, acting_all, at_stage, commanding, fallen, hearing, message_of, posting, rising, stage_after_command, ticking, Move, Stage, Signal, count, freed_by_cancel, moved, ruled, KnownPointState, Input, given, ticked, watching, Point, StepSoFar, giving_move, over, Table, Command, Commands, refusal}
 use Rattle.simulator_recovery.proofs.Words.Stations.{Site}
 use Rattle.simulator_recovery.proofs.Words.Machine.{given_after}
 use Rattle.simulator_recovery.proofs.Words.Recovery.{commanded, IsLast}
@@ -16,8 +16,6 @@ use Rattle.simulator_recovery.proofs.Lemmas.Talk.ClientLinks.{commanding_peer, h
 use Rattle.simulator_recovery.proofs.Lemmas.Points.EndedCalls as walk
 use Rattle.simulator_recovery.proofs.Lemmas.Ground.IxlSoFar.{at_node}
 use Rattle.simulator_recovery.proofs.Lemmas.Ground.EndCalls.{map_both}
-use Rattle.simulator_recovery.proofs.Lemmas.Ground.DueShapes.{found_in, seen_in}
-use Rattle.simulator_recovery.proofs.Lemmas.Ground.FoundClients.{by_calls, closing_peer, shut_link, shut_so}
 
 -- ---- what a client gives in a step while it awaits a report: nothing but the move that it was given in the step
 
@@ -79,17 +77,6 @@ module _ (site : Site) (now connection : ℕ) (client : ClientState) (outbox : O
     same = λ e. (heard bytes).tracks.gave ∙ ((heard bytes).way (stands (behind_items bytes).client e).awaits).1;
   }
 
-  -- what isn't caught up any more is closed
-  pub closes_nothing : GivesNothing now connection given client (closing_behind now start).client (closing_behind now start).calls
-  unfolding all_made given_after made_by
-  closes_nothing = by_calls (λ (c : ClientState) (calls : List LinkCall). GivesNothing now connection given client c calls) now client outbox []
-      (λ behind. record {
-        link_is = shut_link now client;
-        awaited = λ e. absurd (cc (sym (shut_so now client).stage_is ∙ e));
-        same = λ e. absurd (cc (sym (shut_so now client).stage_is ∙ e));
-      })
-      (λ calm. record { link_is = refl; awaited = λ e. e; same = λ e. refl })
-
   -- a move
   pub gives_move : (side : Side) → GivesOne now connection (commanded client.peer (Move side)) given client (commanding now (Move side) start).client (commanding now (Move side) start).calls
   unfolding commanding
@@ -104,7 +91,7 @@ module _ (site : Site) (now connection : ℕ) (client : ClientState) (outbox : O
       then_at : ClientSoFar
       then_at = at_stage (stage_after_command (Move side) client.stage) sent
 
-      by_post : Posted site (Signal 0) client.peer tt now connection client.link given [] item start sent given [] → GivesOne now connection item given client (watched now (fallen then_at.client)) then_at.calls
+      by_post : Posted site (Signal 0) client.peer tt now connection client.link given [] item start sent given [] → GivesOne now connection item given client (fallen then_at.client) then_at.calls
       by_post (accepted up tr) = record { link_is = fallen_link then_at.client ∙ tr.link_is; one = λ e. tr.gave }
       by_post (refused down was tr) = record { link_is = fallen_link then_at.client ∙ tr.link_is; one = λ e. absurd (false≢true (sym down ∙ (stands then_at.client e).up)) }
 
@@ -127,7 +114,7 @@ module _ (site : Site) (now connection : ℕ) (client : ClientState) (outbox : O
       start_phase e = rw e refl
 
       by_opened : (b : Bool) → opens now ticked.client.link ≡ b
-          → Tracked site now connection client outbox given opened (if b then [] else given) (if b then [] else []) → GivesNothing now connection given client (watched now (fallen opened.client)) opened.calls
+          → Tracked site now connection client outbox given opened (if b then [] else given) (if b then [] else []) → GivesNothing now connection given client (fallen opened.client) opened.calls
       by_opened true e tr = record {
         link_is = fallen_link opened.client ∙ tr.link_is;
         awaited = λ f. (stands opened.client f).awaits;
@@ -196,37 +183,29 @@ module _ (site : Site) (now connection point : ℕ) (side : Side) (olds : List K
   hears client outbox bytes so g = nothing_more client (hearing now bytes (begun client outbox)).client so (hearing now bytes (begun client outbox)).calls g
       (hearing_peer now bytes (begun client outbox)) (hears_nothing site now connection client outbox (so_far so) bytes)
 
-  pub closes : (client : ClientState) (outbox : OutboxState) (so : List LinkCall) → Gone client so
-      → Gone (closing_behind now (begun client outbox)).client (so ++ (closing_behind now (begun client outbox)).calls)
-  closes client outbox so g = nothing_more client (closing_behind now (begun client outbox)).client so (closing_behind now (begun client outbox)).calls g
-      (closing_peer now (begun client outbox)) (closes_nothing site now connection client outbox (so_far so))
-
   pub ticks : (client : ClientState) (outbox : OutboxState) (so : List LinkCall) → Gone client so
       → Gone (ticking now (begun client outbox)).client (so ++ (ticking now (begun client outbox)).calls)
   ticks client outbox so g = nothing_more client (ticking now (begun client outbox)).client so (ticking now (begun client outbox)).calls g
       (ticking_peer now (begun client outbox)) (ticks_nothing site now connection client outbox (so_far so))
 
   abbrev pub On : StepSoFar → Type 0
-  On = walk.On now point Gone hears closes ticks
+  On = walk.On now point Gone hears ticks
 
   pub move_on : (place : ℕ) (to : Side) (part : StepSoFar) → ((known : KnownPointState) → point ≡ place → side ≡ to) → On part → On (giving_move now place to part)
-  move_on place to part agreed = walk.move_on now point Gone hears closes ticks place to part (λ known same g.
+  move_on place to part agreed = walk.move_on now point Gone hears ticks place to part (λ known same g.
       one_more known.client (commanding now (Move to) (begun known.client part.outbox)).client (at_node (Point point) part.calls) (commanding now (Move to) (begun known.client part.outbox)).calls
       g (commanding_peer now (Move to) (begun known.client part.outbox))
       (subst (λ (s : Side). GivesOne now connection (commanded known.client.peer (Move s)) (so_far (at_node (Point point) part.calls)) known.client
       (commanding now (Move to) (begun known.client part.outbox)).client
       (commanding now (Move to) (begun known.client part.outbox)).calls) (sym (agreed known same)) (gives_move site now connection known.client part.outbox (so_far (at_node (Point point) part.calls)) to)))
 
-  pub found_on : (part : StepSoFar) → On (record part { ixl = all_clocked now part.ixl }) → On (found_in now part)
-  found_on = walk.found_on now point Gone hears closes ticks
-
   pub given_on : (table : Table) (key : Key) (input : Input) (part : StepSoFar)
       → ((place : PointId) (to : Side) (q : StepSoFar) → input ≡ Commands (Command.Move place to) → refusal now table (Command.Move place to) part.ixl ≡ None → On q → On (giving_move now place.0 to q))
       → On part → On (given now table key input part)
-  given_on = walk.given_on now point Gone hears closes ticks
+  given_on = walk.given_on now point Gone hears ticks
 
-  pub until_moves_on : (table : Table) (part : StepSoFar) → On part → On (freed_by_cancel now table (seen_in now table part))
-  until_moves_on = walk.until_moves_on now point Gone hears closes ticks
+  pub until_moves_on : (table : Table) (part : StepSoFar) → On part → On (freed_by_cancel now table (over (watching table) (count table) part))
+  until_moves_on = walk.until_moves_on now point Gone hears ticks
 
   pub behind_moves_on : (table : Table) (input : Input) (part : StepSoFar) → On (moved now table part) → On (ticked now input (ruled now table part))
-  behind_moves_on = walk.behind_moves_on now point Gone hears closes ticks
+  behind_moves_on = walk.behind_moves_on now point Gone hears ticks

@@ -1,18 +1,17 @@
 -- A route that holds a point with authority by no more than it did, through a step: it doesn't hold it so, or is just given authority.
 use Rattle.simulator_recovery.proofs.Words.Basics.{◌≡◌, ◌⊎◌, inl, inr, ℕ, suc, ◌<◌, ◌≤◌, ◌==◌, ◌&&◌, Bool, true, false, nat_lt, if◌then◌else◌, List, length, Option, Some, None, slice_get, refl, sym, ap, subst, ◌∙◌, arith, ltb-true, ltb-false, ◌||◌, Contains, false≢true, All-contains, same_Some}
 use Rattle.simulator_recovery.proofs.Words.Links.{reading_of, reading, Key}
-use Rattle.simulator_recovery.proofs.Words.Interlockings.{begun, hearing, commanded_by, obeyed, refusal, released_at, set_anew, AllKnown, At, Known, authorised, come_to, count, ended, ending_authority, freed, freed_by_cancel, freed_by_passage, freeing_by_cancel, freeing_by_passage, freeing_next, frees_cancelled, frees_next, is_move_due, is_proceed_due, is_proceeding, is_stop_due, is_withdrawn, moved, moving, moving_one, one_freed, proceeding, ruled, withdrawing, withdrawn, IxlState, KnownPointState, RouteState, Commands, Datagram, Input, Tick, addressed, detector_hearing, given, known_point_hearing, known_signal_hearing, looking, looking_by, looks, node_hearing, occupied_heard, route_looks, stepped, ticked, watching, Detector, Node as IxlNode, Point, Signal, StepSoFar, begun_with, detector_after, empty_outbox, giving_aspect, noted, with_detector, with_one, with_route, Need, Row, Table, freed_sections, is_at_known_stop, is_set, place_in, was_authorised, Command, Refusal, Phase, giving_move, noting}
+use Rattle.simulator_recovery.proofs.Words.Interlockings.{begun, hearing, commanded_by, obeyed, refusal, released_at, set_anew, AllKnown, At, Known, authorised, come_to, count, ended, ending_authority, freed, freed_by_cancel, freed_by_passage, freeing_by_cancel, freeing_by_passage, freeing_next, frees_cancelled, frees_next, is_move_due, is_proceed_due, is_proceeding, is_stop_due, is_withdrawn, moved, moving, moving_one, one_freed, proceeding, ruled, withdrawing, withdrawn, IxlState, KnownPointState, RouteState, Commands, Datagram, Input, Tick, addressed, all_clocked, detector_hearing, given, known_point_hearing, known_signal_hearing, looking, looking_by, looks, node_hearing, occupied_heard, route_looks, stepped, ticked, watching, Detector, Node as IxlNode, Point, Signal, StepSoFar, begun_with, detector_after, empty_outbox, giving_aspect, noted, over, with_detector, with_one, with_route, Need, Row, Table, freed_sections, is_at_known_stop, is_set, place_in, was_authorised, Command, Refusal, Phase, giving_move}
 use Rattle.simulator_recovery.proofs.Words.Stations.{Site, interlocking_stepped, key_of, WorldState}
 use Rattle.simulator_recovery.proofs.Words.Recovery.{IsInside}
 use Rattle.simulator_recovery.proofs.Lemmas.RoutesComing.DueCourse.{at_changed, stopped_leaves}
-use Rattle.simulator_recovery.proofs.Lemmas.Ground.DueShapes.{along_keeps, moving_keeps, one_keeps, over_keeps, passage_keeps, route_keeps, where_keeps, found_in, seen_in, seen_keeps}
+use Rattle.simulator_recovery.proofs.Lemmas.Ground.DueShapes.{along_keeps, moving_keeps, one_keeps, over_keeps, passage_keeps, route_keeps, where_keeps}
 use Rattle.simulator_recovery.proofs.Lemmas.Ground.DueTests.{known_then, first_true}
 use Rattle.simulator_recovery.proofs.Lemmas.RoutesComing.DueKnown.{BringsNothing, known_still, ticks_bring_nothing}
 use Rattle.simulator_recovery.proofs.Lemmas.RoutesComing.NothingDueMoves.{move_leaves}
 use Rattle.simulator_recovery.proofs.Lemmas.RoutesComing.NothingDueProceeds.{AspectLeaves, aspect_leaves}
 use Rattle.simulator_recovery.proofs.Lemmas.Lamps.StopsGiven.{changed_elsewhere, differs, is_equal}
 use Rattle.simulator_recovery.proofs.Lemmas.Ground.MovedAtOnce.{moved_keeps}
-use Rattle.simulator_recovery.proofs.Lemmas.Ground.FoundIxl.{found_routes}
 
 -- In this phase a route holds no point with authority that awaits so many sections.
 abbrev pub HoldsNone : ℕ → Phase → Type 0
@@ -134,11 +133,6 @@ module _ (now : ℕ) (table : Table) (k until : ℕ) where
   watching_none number part is = route_keeps HeldNone table number _ part (λ row route there here. where_keeps HeldNone (is_proceeding route.phase || is_withdrawn route.phase) part _
       (λ due. quietly number _ part (λ one. refl) is) is) is
 
-  noting_none : (number : ℕ) (part : StepSoFar) → HeldNone part → HeldNone (noting now table number part)
-  unfolding noting
-  noting_none number part is = route_keeps HeldNone table number _ part (λ row route there here. where_keeps HeldNone (table.is_strict && was_authorised route.phase) part _
-      (λ due. quietly number _ part (λ one. refl) is) is) is
-
   looks_same : (section : ℕ) (occupied : Bool) (row : Row) (route : RouteState) → (route_looks section occupied row route).phase ≡ route.phase
   looks_same section occupied row route = by_place (place_in section row.sections) refl
     where
@@ -187,11 +181,13 @@ module _ (now : ℕ) (table : Table) (k until : ℕ) where
       moved_keeps HeldNone now table (λ point side q available all. one_keeps HeldNone (slice_get q.ixl.known_points point) _ q (λ known e. all) all)
       (refusal now table command part.ixl) command part refl (commanded_none (refusal now table command part.ixl) command part is)
 
-  found_none : (part : StepSoFar) → HeldNone part → HeldNone (found_in now part)
-  found_none part is = subst (λ (routes : List RouteState). At routes k Holds) (sym (found_routes now part)) is
+  clocked_none : (part : StepSoFar) → HeldNone part → HeldNone (record part { ixl = all_clocked now part.ixl })
+  unfolding all_clocked
+  clocked_none part is = is
 
-  pub seen_none : (key : Key) (input : Input) (part : StepSoFar) → HeldNone part → HeldNone (seen_in now table (given now table key input (found_in now part)))
-  seen_none key input part is = seen_keeps HeldNone now table watching_none noting_none _ (given_none key input (found_in now part) (found_none part is))
+  pub seen_none : (key : Key) (input : Input) (part : StepSoFar) → HeldNone part → HeldNone (over (watching table) (count table)
+      (given now table key input (record part { ixl = all_clocked now part.ixl })))
+  seen_none key input part is = over_keeps HeldNone (watching table) watching_none (count table) _ (given_none key input (record part { ixl = all_clocked now part.ixl }) (clocked_none part is))
 
   -- ---- the last rule, for a point that the route requires
 
@@ -262,4 +258,4 @@ module _ (site : Site) (table : Table) (k : ℕ) (row : Row) (row_there : slice_
       begins = begun_with world.interlocking.ixl empty_outbox
 
       seen : StepSoFar
-      seen = seen_in now table (given now table (key_of site) input (found_in now begins))
+      seen = over (watching table) (count table) (given now table (key_of site) input (record begins { ixl = all_clocked now begins.ixl }))

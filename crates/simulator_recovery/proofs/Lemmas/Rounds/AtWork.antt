@@ -2,7 +2,7 @@
 use Rattle.simulator_recovery.proofs.Words.Basics.{◌≡◌, ℕ, zero, suc, ◌+◌, ◌-◌, ◌^◌, ◌<◌, ◌≤◌, ◌==◌, nat_le, nat_lt, min, Bool, true, false, if◌then◌else◌, List, [], ◌∷◌, ◌++◌, append_assoc, append-nil, length, map, replicate, drop, Option, Some, None, Ok, refl, sym, ap, subst, ◌∙◌, arith, slice_index_or, ◌&&◌, nat_tests}
 use Rattle.simulator_recovery.proofs.Words.Links.{can_come, IsCall, IsWorkAt, calls_in, clock_calls, due_to, lifetime, Each, AreTimely, Call, Receives, Sent, reading_of, MayRun, Passes, run, is_same, InFlight, AreLinks, CallsOn, Links, LinksEvent, MayRunLinks, OnLink, PassesFor, happened_to, of_link, run_links, run_on, seen, name_of, partner_of, Role, reading, Pdu}
 use Rattle.simulator_recovery.proofs.Words.Controllers.{Input, Sense}
-use Rattle.simulator_recovery.proofs.Words.Interlockings.{IsTableOf, as_section, addressed, as_found, node_of, SitedTable, Table}
+use Rattle.simulator_recovery.proofs.Words.Interlockings.{IsTableOf, as_section, addressed, all_clocked, node_of, SitedTable, Table}
 use Rattle.simulator_recovery.proofs.Words.Stations.{Site, Once, IsStation, Event, Refused, FoundDriven, RoundEvent, Flowing, deliveries, position_of, reach, reaches, round, round_of_time, ticks, coming, AreLinksOf, names_at, connection_of, copy_of, key_of, links, node_at, nodes, refusal, WorldState, Played, after, arrival_in, receiver, refusal_of, delivery_events, events_of, tick_events, IsStanding, IsWhole, IsReached}
 use Rattle.simulator_recovery.proofs.Words.Recovery.{IsAtWorkOn, all_events_tried, behind_time, calls_of_round, calls_on, event_of, events_tried, events_where, links_behind, time_of_round, HasTime, IsFresh, IsWork, LeavesFresh, NoneRefused, all_tried, arrivals, clocks_of, LawsBelow}
 use Rattle.simulator_recovery.proofs.Lemmas.Ground.ClientItem.{addressed_is}
@@ -10,7 +10,7 @@ use Rattle.simulator_recovery.proofs.Lemmas.Rounds.Arrives.{due_in_order, none_r
 use Rattle.simulator_recovery.proofs.Lemmas.Rounds.Clocks.{time_may_pass}
 use Rattle.simulator_recovery.proofs.Lemmas.Ground.EndCalls.{IsFront, SaysOn, all_called_at, all_say, called_at, called_both, calls_alone, front_comes, front_said, front_then, seen_calls, each_both, map_both, map_length}
 use Rattle.simulator_recovery.proofs.Lemmas.Rounds.LinkRounds.{Followed, HasThese, after_each, all_followed, are_links, events_both, may_both, round_called, round_tried, tens_at, tried_followed}
-use Rattle.simulator_recovery.proofs.Lemmas.Ground.NodeCalls.{ComesTo, StepsAt, TicksAt, client_alone, command_says_on, controller_steps, first_says, interlocking_comes, interlocking_ticks, reached_says, sensed_says, server_comes, server_else, server_not_client, server_ticks}
+use Rattle.simulator_recovery.proofs.Lemmas.Ground.NodeCalls.{ComesTo, StepsAt, TicksAt, client_alone, command_says_on, controller_steps, interlocking_comes, interlocking_ticks, reached_says, sensed_says, server_comes, server_else, server_not_client, server_ticks}
 use Rattle.simulator_recovery.proofs.Lemmas.Rounds.Rounds.{each_can, has_all}
 
 -- ---- what says something at most
@@ -146,12 +146,9 @@ pub record IsFrom (site : Site) (one : OnLink) : Type 0 where
 
 pub comes_front : (who : Role) (link : ℕ) (one : OnLink) (events : List LinksEvent) → ComesTo one.link (partner_of one.datagram.sender) one.datagram.bytes events → IsFront (due_one who link one) (all_called_at who link events)
 comes_front who link one events comes = subst (λ (l : List LinksEvent). IsFront (due_one who link one) (all_called_at who link l)) (sym comes.are)
-    (subst (IsFront (due_one who link one)) (sym (called_both who link comes.first (first ∷ comes.more)))
-    (front_then [] (due_one who link one) (all_called_at who link comes.first) (all_called_at who link (first ∷ comes.more))
-    (front_said (all_called_at who link comes.first) (all_say who link comes.first (first_says comes.first comes.closes)))
     (subst (λ (due : List (List ℕ)). IsFront due (called_at who link first ++ all_called_at who link comes.more)) (append-nil (due_one who link one))
     (front_then (due_one who link one) [] (called_at who link first) (all_called_at who link comes.more) (choose (link == one.link) (is_same (partner_of one.datagram.sender) who))
-    (front_said (all_called_at who link comes.more) (all_say who link comes.more comes.says))))))
+    (front_said (all_called_at who link comes.more) (all_say who link comes.more comes.says))))
   where
     first : LinksEvent
     first = CallsOn one.link (partner_of one.datagram.sender) (Receives one.datagram.bytes comes.connection)
@@ -173,7 +170,7 @@ module _ (site : Site) (table : Table) (sections : length table.detectors ≡ le
       let now = reading_of world.interlocking.clock
       in let found = addressed_is site world these named whole timely are now table sections link below
       in interlocking_comes site table bytes (connection_of (copy_of bytes world)) world link found.0
-      (ap (λ r. addressed r (as_found now world.interlocking.ixl)) read ∙ (ap (λ (n : ℕ). node_of n (as_found now world.interlocking.ixl)) sender ∙ found.1)) found.2.0 found.2.1
+      (ap (λ r. addressed r (all_clocked now world.interlocking.ixl)) read ∙ (ap (λ (n : ℕ). node_of n (all_clocked now world.interlocking.ixl)) sender ∙ found.1)) found.2.0 found.2.1
   arrives Role.Client link bytes pdu below read sender = subst (λ (n : ℕ). ComesTo link Role.Server bytes (delivery_events site table bytes connection (node_at site n) world)) (sym number)
       (server_comes bytes connection link _ (controller_steps site (coming bytes) connection world whole link below (λ node. delivery_events site table bytes connection node world) (λ place. refl) (λ place. refl) (λ place. refl)))
     where

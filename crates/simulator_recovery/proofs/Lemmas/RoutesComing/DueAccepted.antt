@@ -2,21 +2,20 @@
 use Rattle.simulator_recovery.proofs.Words.Basics.{◌≡◌, ◌⊎◌, inl, inr, ℕ, ◌==◌, ◌&&◌, Bool, true, false, List, Option, Some, None, slice_get, refl, sym, ap, subst, ◌∙◌, not, nat_cmp_total, unsigned_tied, contains, contains-remove, remove, Contains, eq-eqb, All-contains, same_Some}
 use Rattle.simulator_recovery.proofs.Words.Links.{reading_of}
 use Rattle.simulator_recovery.proofs.Words.Controllers.{Side}
-use Rattle.simulator_recovery.proofs.Words.Interlockings.{LiesInClosed, is_available, commanded_by, obeyed, refusal, request_refusal, set_anew, unmoved_for, Admissible, AllClear, AllKnown, At, IsAvailable, IsClear, IsHeldWithAuthority, Known, authorised, come_to, count, ended, ending_authority, freed_by_cancel, freed_by_passage, freeing_by_cancel, freeing_by_passage, freeing_next, frees_cancelled, frees_next, is_move_due, is_proceed_due, is_stop_due, is_withdrawn, moved, moving, moving_one, proceeding, ruled, withdrawing, withdrawn, IxlState, KnownDetectorState, KnownPointState, RouteState, changed, Commands, given, reply, stepped, ticked, watching, StepSoFar, begun_with, empty_outbox, giving_aspect, giving_move, with_route, Need, Row, Table, is_at_known_stop, Command, Refusal, Phase, moved_at_once, as_found, noting}
+use Rattle.simulator_recovery.proofs.Words.Interlockings.{LiesInClosed, is_available, commanded_by, obeyed, refusal, request_refusal, set_anew, unmoved_for, Admissible, AllClear, AllKnown, At, IsAvailable, IsClear, IsHeldWithAuthority, Known, authorised, come_to, count, ended, ending_authority, freed_by_cancel, freed_by_passage, freeing_by_cancel, freeing_by_passage, freeing_next, frees_cancelled, frees_next, is_move_due, is_proceed_due, is_stop_due, is_withdrawn, moved, moving, moving_one, proceeding, ruled, withdrawing, withdrawn, IxlState, KnownDetectorState, KnownPointState, RouteState, changed, Commands, all_clocked, given, reply, stepped, ticked, watching, StepSoFar, begun_with, empty_outbox, giving_aspect, giving_move, over, with_route, Need, Row, Table, is_at_known_stop, Command, Refusal, Phase, moved_at_once}
 use Rattle.simulator_spec.specs.ixl_spec.closings.declared.closed.Closings.{Closings}
 use Rattle.simulator_spec.specs.ixl_spec.Operations.{need_thing, things_used}
 use Rattle.simulator_recovery.proofs.Lemmas.RoutesComing.NeedsUsed.{need_is_used}
 use Rattle.simulator_recovery.proofs.Words.Stations.{Places, Site, RouteId, Event, Answer, answered, happens, interlocking_stepped, WorldState}
 use Rattle.simulator_recovery.proofs.Words.Recovery.{HasAspect, Waits, MoveLaw, RequestLaw}
 use Rattle.simulator_recovery.proofs.Lemmas.Lamps.Cancelled.{not_refused}
-use Rattle.simulator_recovery.proofs.Lemmas.RoutesComing.DueCourse.{at_changed, stopped_leaves, until_moved, waits_held, waits_keep, watching_held, noting_held}
-use Rattle.simulator_recovery.proofs.Lemmas.Ground.DueShapes.{along_keeps, over_keeps, passage_keeps, route_keeps, where_keeps, found_in, seen_in, seen_keeps}
+use Rattle.simulator_recovery.proofs.Lemmas.RoutesComing.DueCourse.{at_changed, stopped_leaves, until_moved, waits_held, waits_keep, watching_held}
+use Rattle.simulator_recovery.proofs.Lemmas.Ground.DueShapes.{along_keeps, over_keeps, passage_keeps, route_keeps, where_keeps}
 use Rattle.simulator_recovery.proofs.Lemmas.Ground.DueTests.{known_or_not, known_surely, known_then}
 use Rattle.simulator_recovery.proofs.Lemmas.Ground.IxlClients.{mapped_at}
 use Rattle.simulator_recovery.proofs.Lemmas.RoutesComing.NothingDueMoves.{MoveLeaves, move_leaves, moved_point, step_none}
 use Rattle.simulator_recovery.proofs.Lemmas.RoutesComing.NothingDueProceeds.{AspectLeaves, aspect_leaves}
 use Rattle.simulator_recovery.proofs.Lemmas.Lamps.StopsGiven.{changed_elsewhere, changed_here, differs, is_equal}
-use Rattle.simulator_recovery.proofs.Lemmas.Ground.FoundIxl.{found_is}
 
 -- ---- what the rules leave of points and detectors, and of what is closed
 
@@ -159,91 +158,84 @@ module _ (site : Site) (table : Table) (world : WorldState) (route : RouteId) wh
   abbrev now : ℕ
   now = reading_of world.interlocking.clock
 
-  abbrev finds : StepSoFar
-  finds = found_in now (begun_with world.interlocking.ixl empty_outbox)
+  abbrev clocked : StepSoFar
+  clocked = record (begun_with world.interlocking.ixl empty_outbox) { ixl = all_clocked now world.interlocking.ixl }
 
   abbrev heard_by : Option Refusal → StepSoFar
-  heard_by cause = moved_at_once now cause (Command.Request route) (record finds { ixl = commanded_by now cause (Command.Request route) finds.ixl })
+  heard_by cause = moved_at_once now cause (Command.Request route) (record clocked { ixl = commanded_by now cause (Command.Request route) clocked.ixl })
 
   abbrev heard : StepSoFar
-  heard = heard_by (refusal now table (Command.Request route) finds.ixl)
+  heard = heard_by (refusal now table (Command.Request route) clocked.ixl)
 
   abbrev Set : StepSoFar → Type 0
-  Set part = (Unmoved finds.ixl route.0 part.ixl.known_points × (part.ixl.detectors ≡ finds.ixl.detectors) × (part.ixl.closed ≡ finds.ixl.closed)) × At part.ixl.routes route.0 Waits
+  Set part = (Unmoved clocked.ixl route.0 part.ixl.known_points × (part.ixl.detectors ≡ clocked.ixl.detectors) × (part.ixl.closed ≡ clocked.ixl.closed)) × At part.ixl.routes route.0 Waits
 
-  obeyed_set : (one : RouteState) → slice_get finds.ixl.routes route.0 ≡ Some one → Set (heard_by None)
+  obeyed_set : (one : RouteState) → slice_get clocked.ixl.routes route.0 ≡ Some one → Set (heard_by None)
   unfolding obeyed moved_at_once
   obeyed_set one there = (
     (
-      (λ place known e available. let found = mapped_at (unmoved_for route.0) finds.ixl.known_points place known e in (
+      (λ place known e available. let found = mapped_at (unmoved_for route.0) clocked.ixl.known_points place known e in (
         ap (λ (k : KnownPointState). contains k.moved route.0) found.2 ∙ removed found.0.moved route.0,
         λ side was. ap (λ (k : KnownPointState). k.side) found.2 ∙ (ap (λ (k : KnownPointState). k.side) (same_Some found.0 was.0 (sym found.1 ∙ was.1)) ∙ was.2.1),
       )),
       refl,
       refl,
     ),
-    (set_anew one, changed_here set_anew route.0 finds.ixl.routes one there, (refl, refl)),
+    (set_anew one, changed_here set_anew route.0 clocked.ixl.routes one there, (refl, refl)),
   )
 
-  heard_set : (one : RouteState) → slice_get finds.ixl.routes route.0 ≡ Some one → refusal now table (Command.Request route) finds.ixl ≡ None → Set heard
+  heard_set : (one : RouteState) → slice_get clocked.ixl.routes route.0 ≡ Some one → refusal now table (Command.Request route) clocked.ixl ≡ None → Set heard
   heard_set one there none = subst (λ (cause : Option Refusal). Set (heard_by cause)) (sym none) (obeyed_set one there)
 
   abbrev seen : StepSoFar
-  seen = seen_in now table heard
+  seen = over (watching table) (count table) heard
 
-  watching_set : (number : ℕ) (part : StepSoFar) → (Unmoved finds.ixl route.0 part.ixl.known_points × (part.ixl.detectors ≡ finds.ixl.detectors) × (part.ixl.closed ≡ finds.ixl.closed)) → (Unmoved finds.ixl route.0 (watching table number part).ixl.known_points × ((watching table number part).ixl.detectors ≡ finds.ixl.detectors) × ((watching table number part).ixl.closed ≡ finds.ixl.closed))
+  watching_set : (number : ℕ) (part : StepSoFar) → (Unmoved clocked.ixl route.0 part.ixl.known_points × (part.ixl.detectors ≡ clocked.ixl.detectors) × (part.ixl.closed ≡ clocked.ixl.closed)) → (Unmoved clocked.ixl route.0 (watching table number part).ixl.known_points × ((watching table number part).ixl.detectors ≡ clocked.ixl.detectors) × ((watching table number part).ixl.closed ≡ clocked.ixl.closed))
   unfolding watching
   watching_set number part is = route_keeps Q table number _ part (λ row one there here. where_keeps Q _ part _ (λ due. is) is) is
     where
       Q : StepSoFar → Type 0
-      Q q = Unmoved finds.ixl route.0 q.ixl.known_points × (q.ixl.detectors ≡ finds.ixl.detectors) × (q.ixl.closed ≡ finds.ixl.closed)
+      Q q = Unmoved clocked.ixl route.0 q.ixl.known_points × (q.ixl.detectors ≡ clocked.ixl.detectors) × (q.ixl.closed ≡ clocked.ixl.closed)
 
-  noting_set : (number : ℕ) (part : StepSoFar) → (Unmoved finds.ixl route.0 part.ixl.known_points × (part.ixl.detectors ≡ finds.ixl.detectors) × (part.ixl.closed ≡ finds.ixl.closed)) → (Unmoved finds.ixl route.0 (noting now table number part).ixl.known_points × ((noting now table number part).ixl.detectors ≡ finds.ixl.detectors) × ((noting now table number part).ixl.closed ≡ finds.ixl.closed))
-  unfolding noting
-  noting_set number part is = route_keeps Q table number _ part (λ row one there here. where_keeps Q _ part _ (λ due. is) is) is
-    where
-      Q : StepSoFar → Type 0
-      Q q = Unmoved finds.ixl route.0 q.ixl.known_points × (q.ixl.detectors ≡ finds.ixl.detectors) × (q.ixl.closed ≡ finds.ixl.closed)
-
-  accepted_so : (asked : IsAsked table finds.ixl route.0) → refusal now table (Command.Request route) finds.ixl ≡ None → Accepted now table finds.ixl (interlocking_stepped site table (Commands (Command.Request route)) world).interlocking.ixl route.0 asked.row
+  accepted_so : (asked : IsAsked table clocked.ixl route.0) → refusal now table (Command.Request route) clocked.ixl ≡ None → Accepted now table clocked.ixl (interlocking_stepped site table (Commands (Command.Request route)) world).interlocking.ixl route.0 asked.row
   unfolding interlocking_stepped stepped ticked given
   accepted_so asked none = record { unmoved = behind.0.0; detectors = behind.0.1; closed = behind.0.2; course = behind.1 }
     where
       set : Set heard
       set = heard_set asked.route asked.there none
 
-      seen_field : Unmoved finds.ixl route.0 seen.ixl.known_points × (seen.ixl.detectors ≡ finds.ixl.detectors) × (seen.ixl.closed ≡ finds.ixl.closed)
-      seen_field = seen_keeps (λ (q : StepSoFar). Unmoved finds.ixl route.0 q.ixl.known_points × (q.ixl.detectors ≡ finds.ixl.detectors) × (q.ixl.closed ≡ finds.ixl.closed)) now table watching_set noting_set heard set.0
+      seen_field : Unmoved clocked.ixl route.0 seen.ixl.known_points × (seen.ixl.detectors ≡ clocked.ixl.detectors) × (seen.ixl.closed ≡ clocked.ixl.closed)
+      seen_field = over_keeps (λ (q : StepSoFar). Unmoved clocked.ixl route.0 q.ixl.known_points × (q.ixl.detectors ≡ clocked.ixl.detectors) × (q.ixl.closed ≡ clocked.ixl.closed)) (watching table) watching_set (count table) heard set.0
 
       seen_waits : At seen.ixl.routes route.0 Waits
-      seen_waits = seen_keeps (λ (q : StepSoFar). At q.ixl.routes route.0 Waits) now table (watching_held now table route.0 Waits waits_keep) (noting_held now table route.0 Waits waits_keep) heard set.1
+      seen_waits = over_keeps (λ (q : StepSoFar). At q.ixl.routes route.0 Waits) (watching table) (watching_held now table route.0 Waits waits_keep) (count table) heard set.1
 
       freed_field : FieldStands seen.ixl (freed_by_cancel now table seen)
       freed_field = until_freed now table seen.ixl seen (refl, refl, refl)
 
-      moved_field : Unmoved finds.ixl route.0 (moved now table seen).ixl.known_points × ((moved now table seen).ixl.detectors ≡ finds.ixl.detectors) × ((moved now table seen).ixl.closed ≡ finds.ixl.closed)
-      moved_field = over_keeps (StillUnmoved now table finds.ixl route.0) (moving now table) (moving_unmoved now table finds.ixl route.0) (count table) (freed_by_cancel now table seen)
-          (subst (Unmoved finds.ixl route.0) (sym freed_field.0) seen_field.0, freed_field.1 ∙ seen_field.1, freed_field.2 ∙ seen_field.2)
+      moved_field : Unmoved clocked.ixl route.0 (moved now table seen).ixl.known_points × ((moved now table seen).ixl.detectors ≡ clocked.ixl.detectors) × ((moved now table seen).ixl.closed ≡ clocked.ixl.closed)
+      moved_field = over_keeps (StillUnmoved now table clocked.ixl route.0) (moving now table) (moving_unmoved now table clocked.ixl route.0) (count table) (freed_by_cancel now table seen)
+          (subst (Unmoved clocked.ixl route.0) (sym freed_field.0) seen_field.0, freed_field.1 ∙ seen_field.1, freed_field.2 ∙ seen_field.2)
 
       moved_waits : At (moved now table seen).ixl.routes route.0 Waits
       moved_waits = until_moved now table route.0 Waits waits_keep seen (over_keeps (λ (q : StepSoFar). At q.ixl.routes route.0 Waits) (withdrawing now table) (waits_held now table route.0) (count table) seen seen_waits)
 
-      behind : StillUnmoved now table finds.ixl route.0 (ruled now table seen) × Course now table finds.ixl route.0 asked.row (ruled now table seen)
-      behind = over_keeps (λ (q : StepSoFar). StillUnmoved now table finds.ixl route.0 q × Course now table finds.ixl route.0 asked.row q) (proceeding now table)
-          (proceeding_course now table finds.ixl route.0 asked.row asked.row_there) (count table) (moved now table seen) (moved_field, inl moved_waits)
+      behind : StillUnmoved now table clocked.ixl route.0 (ruled now table seen) × Course now table clocked.ixl route.0 asked.row (ruled now table seen)
+      behind = over_keeps (λ (q : StepSoFar). StillUnmoved now table clocked.ixl route.0 q × Course now table clocked.ixl route.0 asked.row q) (proceeding now table)
+          (proceeding_course now table clocked.ixl route.0 asked.row asked.row_there) (count table) (moved now table seen) (moved_field, inl moved_waits)
 
-  accepted_none : answered site table (Event.Request (Command.Request route)) world ≡ Answer.Accepted → refusal now table (Command.Request route) finds.ixl ≡ None
+  accepted_none : answered site table (Event.Request (Command.Request route)) world ≡ Answer.Accepted → refusal now table (Command.Request route) clocked.ixl ≡ None
   unfolding answered reply
-  accepted_none accepted = ap (refusal now table (Command.Request route)) (found_is now (begun_with world.interlocking.ixl empty_outbox)) ∙ not_refused (refusal now table (Command.Request route) (as_found now world.interlocking.ixl)) accepted
+  accepted_none accepted = not_refused (refusal now table (Command.Request route) clocked.ixl) accepted
 
   abbrev after : WorldState
   after = happens site table (Event.Request (Command.Request route)) world
 
-  accepted_then : answered site table (Event.Request (Command.Request route)) world ≡ Answer.Accepted → (asked : IsAsked table finds.ixl route.0) × Accepted now table finds.ixl after.interlocking.ixl route.0 asked.row
+  accepted_then : answered site table (Event.Request (Command.Request route)) world ≡ Answer.Accepted → (asked : IsAsked table clocked.ixl route.0) × Accepted now table clocked.ixl after.interlocking.ixl route.0 asked.row
   unfolding happens
   accepted_then accepted =
       let none = accepted_none accepted
-      in let asked = is_asked now table finds.ixl route none
+      in let asked = is_asked now table clocked.ixl route none
       in (asked, accepted_so asked none)
 
   pub accepted_goes_on : answered site table (Event.Request (Command.Request route)) world ≡ Answer.Accepted → At after.interlocking.ixl.routes route.0 (λ (one : RouteState). Waits one ⊎ HasAspect one)
@@ -259,21 +251,21 @@ module _ (site : Site) (table : Table) (world : WorldState) (route : RouteId) wh
   unfolding happens
   accepted_points law request row need row_there within accepted available clear unheld = choose behind.1.course
     where
-      admissible : Admissible now table finds.ixl route.0
-      admissible = (request now table finds.ixl route).0 (accepted_none accepted)
+      admissible : Admissible now table clocked.ixl route.0
+      admissible = (request now table clocked.ixl route).0 (accepted_none accepted)
 
       used : Contains (things_used route.0 admissible.row) (need_thing need)
       used = need_is_used route.0 admissible.row need (subst (λ (r : Row). Contains r.needs need) (same_Some row admissible.row (sym row_there ∙ admissible.known.0)) within)
 
-      behind : (asked : IsAsked table finds.ixl route.0) × Accepted now table finds.ixl after.interlocking.ixl route.0 asked.row
+      behind : (asked : IsAsked table clocked.ixl route.0) × Accepted now table clocked.ixl after.interlocking.ixl route.0 asked.row
       behind = accepted_then accepted
 
       -- a required point in a closed section is known at its side as the request is accepted, and so after it
-      by_known : Known finds.ixl need.point need.side ⊎ (Known finds.ixl need.point need.side → ⊥) → LiesInClosed table after.interlocking.ixl need.point
+      by_known : Known clocked.ixl need.point need.side ⊎ (Known clocked.ixl need.point need.side → ⊥) → LiesInClosed table after.interlocking.ixl need.point
           → (Known after.interlocking.ixl need.point need.side → ⊥) → ⊥
       by_known (inl was) lies unknown = unknown (available.0, available.1, (available.2, (behind.1.unmoved need.point available.0 available.1 available.2).1 need.side was))
       by_known (inr was_not) lies unknown = admissible.unclosed (need_thing need) used
-          (inr (subst (λ (c : Closings). LiesInClosed table (record finds.ixl { closed = c }) need.point) behind.1.closed lies, was_not))
+          (inr (subst (λ (c : Closings). LiesInClosed table (record clocked.ixl { closed = c }) need.point) behind.1.closed lies, was_not))
 
       choose : At after.interlocking.ixl.routes route.0 Waits ⊎ (At after.interlocking.ixl.routes route.0 HasAspect × AllKnown after.interlocking.ixl behind.0.row.needs) → Known after.interlocking.ixl need.point need.side
       choose (inl waits) = known_surely after.interlocking.ixl need.point need.side (λ unknown. step_none law site table (Commands (Command.Request route)) world route.0 row need row_there within row waits.0 (row_there, waits.1) (record {
@@ -284,23 +276,23 @@ module _ (site : Site) (table : Table) (world : WorldState) (route : RouteId) wh
         over_clear = clear;
         unheld = unheld;
         once = (available.0, available.1, (behind.1.unmoved need.point available.0 available.1 available.2).0);
-        unclosed = λ lies. by_known (known_or_not finds.ixl need.point need.side) lies unknown;
+        unclosed = λ lies. by_known (known_or_not clocked.ixl need.point need.side) lies unknown;
       }))
       choose (inr proceeds) = All-contains (λ (one : Need). Known after.interlocking.ixl one.point one.side) row.needs need
           (subst (λ (r : Row). AllKnown after.interlocking.ixl r.needs) (same_Some behind.0.row row (sym behind.0.row_there ∙ row_there)) proceeds.1) within
 
   -- it was admissible as the request came
-  pub accepted_admissible : RequestLaw → answered site table (Event.Request (Command.Request route)) world ≡ Answer.Accepted → Admissible now table (as_found now world.interlocking.ixl) route.0
-  accepted_admissible law accepted = subst (λ (ixl : IxlState). Admissible now table ixl route.0) (found_is now (begun_with world.interlocking.ixl empty_outbox)) ((law now table finds.ixl route).0 (accepted_none accepted))
+  pub accepted_admissible : RequestLaw → answered site table (Event.Request (Command.Request route)) world ≡ Answer.Accepted → Admissible now table (all_clocked now world.interlocking.ixl) route.0
+  accepted_admissible law accepted = (law now table clocked.ixl route).0 (accepted_none accepted)
 
   -- its sections are clear
   pub accepted_clear : RequestLaw → (row : Row) → slice_get table.rows route.0 ≡ Some row
       → answered site table (Event.Request (Command.Request route)) world ≡ Answer.Accepted → AllClear table after.interlocking.ixl row.sections
   accepted_clear law row row_there accepted =
-      let admissible : Admissible now table finds.ixl route.0 = (law now table finds.ixl route).0 (accepted_none accepted)
+      let admissible = accepted_admissible law accepted
       in let behind = accepted_then accepted
-      in subst (λ (ds : List KnownDetectorState). AllClear table (record finds.ixl { detectors = ds }) row.sections) (sym behind.1.detectors)
-      (subst (λ (r : Row). AllClear table finds.ixl r.sections) (same_Some admissible.row row (sym admissible.known.0 ∙ row_there)) admissible.clear)
+      in subst (λ (ds : List KnownDetectorState). AllClear table (record clocked.ixl { detectors = ds }) row.sections) (sym behind.1.detectors)
+      (subst (λ (r : Row). AllClear table clocked.ixl r.sections) (same_Some admissible.row row (sym admissible.known.0 ∙ row_there)) admissible.clear)
 
   -- it waits, or has its aspect, and then each point that it requires is known at its side
   pub accepted_course : answered site table (Event.Request (Command.Request route)) world ≡ Answer.Accepted → (row : Row) → slice_get table.rows route.0 ≡ Some row

@@ -2,12 +2,12 @@
 use Rattle.simulator_recovery.proofs.Words.Basics.{◌≡◌, ◌≢◌, ◌⊎◌, inl, inr, ℕ, ◌==◌, ◌&&◌, Bool, true, false, if◌then◌else◌, List, Option, Some, None, slice_get, refl, sym, ap, subst, ◌∙◌, ◌||◌, not, false≢true, none-some, same_Some}
 use Rattle.simulator_recovery.proofs.Words.Links.{reading_of, reading, Key}
 use Rattle.simulator_recovery.proofs.Words.Controllers.{Aspect}
-use Rattle.simulator_recovery.proofs.Words.Interlockings.{begun, hearing, commanded_by, obeyed, refusal, released_at, request_refusal, set_anew, AllClear, AllKnown, At, IsSignalReady, StopDue, authorised, come_to, count, ended, ending_authority, freed, freed_by_cancel, freed_by_passage, freeing_by_cancel, freeing_by_passage, freeing_next, frees_cancelled, frees_next, is_move_due, is_proceed_due, is_proceeding, is_stop_due, is_withdrawn, moved, moving, moving_one, one_freed, proceeding, ruled, stopped, withdrawing, withdrawn, IxlState, KnownDetectorState, KnownPointState, RouteState, changed, Commands, Datagram, Input, Tick, addressed, detector_hearing, given, known_point_hearing, known_signal_hearing, looking, looking_by, looks, node_hearing, occupied_heard, route_looks, stepped, ticked, watching, Detector, Node as IxlNode, Point, Signal, StepSoFar, begun_with, detector_after, empty_outbox, giving_aspect, noted, with_detector, with_one, with_route, Need, Row, Table, is_at_known_stop, is_set, is_signal_ready, place_in, was_authorised, Command, Refusal, Phase, giving_move, noting}
+use Rattle.simulator_recovery.proofs.Words.Interlockings.{begun, hearing, commanded_by, obeyed, refusal, released_at, request_refusal, set_anew, AllClear, AllKnown, At, IsSignalReady, StopDue, authorised, come_to, count, ended, ending_authority, freed, freed_by_cancel, freed_by_passage, freeing_by_cancel, freeing_by_passage, freeing_next, frees_cancelled, frees_next, is_move_due, is_proceed_due, is_proceeding, is_stop_due, is_withdrawn, moved, moving, moving_one, one_freed, proceeding, ruled, stopped, withdrawing, withdrawn, IxlState, KnownDetectorState, KnownPointState, RouteState, changed, Commands, Datagram, Input, Tick, addressed, all_clocked, detector_hearing, given, known_point_hearing, known_signal_hearing, looking, looking_by, looks, node_hearing, occupied_heard, route_looks, stepped, ticked, watching, Detector, Node as IxlNode, Point, Signal, StepSoFar, begun_with, detector_after, empty_outbox, giving_aspect, noted, over, with_detector, with_one, with_route, Need, Row, Table, is_at_known_stop, is_set, is_signal_ready, place_in, was_authorised, Command, Refusal, Phase, giving_move}
 use Rattle.simulator_recovery.proofs.Words.Stations.{Site, RouteId, Event, happens, interlocking_stepped, key_of, node_at, WorldState, IsReached}
 use Rattle.simulator_recovery.proofs.Words.Recovery.{CancelsNot, IsUpheld, KeepsSetting, HasAspect, UpholdsAspect, Waits, input_of, known_in_step, StopLaw}
 use Rattle.simulator_recovery.proofs.Lemmas.Lamps.ConfirmedStops.{standing_then}
 use Rattle.simulator_recovery.proofs.Lemmas.Ground.IxlAlways.{MakesAnew, event_then, input_is}
-use Rattle.simulator_recovery.proofs.Lemmas.Ground.DueShapes.{along_keeps, moving_keeps, one_keeps, over_keeps, passage_keeps, route_keeps, where_keeps, found_in, seen_in, seen_keeps}
+use Rattle.simulator_recovery.proofs.Lemmas.Ground.DueShapes.{along_keeps, moving_keeps, one_keeps, over_keeps, passage_keeps, route_keeps, where_keeps}
 use Rattle.simulator_recovery.proofs.Lemmas.RoutesComing.DueKnown.{ticks_bring_nothing}
 use Rattle.simulator_recovery.proofs.Lemmas.RoutesComing.NothingDueMoves.{move_leaves}
 use Rattle.simulator_recovery.proofs.Lemmas.RoutesComing.NothingDueProceeds.{AspectLeaves, aspect_leaves}
@@ -15,7 +15,6 @@ use Rattle.simulator_recovery.proofs.Lemmas.Ground.SignalParts.{watched_held, wi
 use Rattle.simulator_recovery.proofs.Lemmas.Lamps.StopsGiven.{AnyCommand, StopsStand, changed_elsewhere, changed_here, differs, is_equal, proceeding_set, request_unset, stand_keep}
 use Rattle.simulator_recovery.proofs.Lemmas.Ground.DueTests.{first_true}
 use Rattle.simulator_recovery.proofs.Lemmas.Ground.MovedAtOnce.{moved_keeps}
-use Rattle.simulator_recovery.proofs.Lemmas.Ground.FoundIxl.{found_routes}
 
 -- ---- one route of a list
 
@@ -125,10 +124,6 @@ module _ (now : ℕ) (table : Table) (k : ℕ) (F : RouteState → Type 0) (keep
   unfolding watching
   watching_held number part is = route_keeps Held table number _ part (λ row route there here. where_keeps Held (is_proceeding route.phase || is_withdrawn route.phase) part _ (λ due. quietly number _ part (λ one. (refl, refl)) is) is) is
 
-  pub noting_held : (number : ℕ) (part : StepSoFar) → Held part → Held (noting now table number part)
-  unfolding noting
-  noting_held number part is = route_keeps Held table number _ part (λ row route there here. where_keeps Held (table.is_strict && was_authorised route.phase) part _ (λ due. quietly number _ part (λ one. (refl, refl)) is) is) is
-
   looks_same : (section : ℕ) (occupied : Bool) (row : Row) (route : RouteState) → ((route_looks section occupied row route).phase ≡ route.phase) × ((route_looks section occupied row route).cancelled ≡ route.cancelled)
   looks_same section occupied row route = by_place (place_in section row.sections) refl
     where
@@ -189,12 +184,13 @@ module _ (now : ℕ) (table : Table) (k : ℕ) (F : RouteState → Type 0) (keep
       moved_keeps Held now table (λ point side q available all. one_keeps Held (slice_get q.ixl.known_points point) _ q (λ known e. all) all)
       (refusal now table command part.ixl) command part refl (commanded_held (refusal now table command part.ixl) command part refl leaves is)
 
-  found_held : (part : StepSoFar) → Held part → Held (found_in now part)
-  found_held part is = subst (λ (routes : List RouteState). At routes k F) (sym (found_routes now part)) is
+  clocked_held : (part : StepSoFar) → Held part → Held (record part { ixl = all_clocked now part.ixl })
+  unfolding all_clocked
+  clocked_held part is = is
 
   -- before the rules
-  pub seen_held : (key : Key) (input : Input) (part : StepSoFar) → LeavesSetting k input → Held part → Held (seen_in now table (given now table key input (found_in now part)))
-  seen_held key input part leaves is = seen_keeps Held now table watching_held noting_held _ (given_held key input (found_in now part) leaves (found_held part is))
+  pub seen_held : (key : Key) (input : Input) (part : StepSoFar) → LeavesSetting k input → Held part → Held (over (watching table) (count table) (given now table key input (record part { ixl = all_clocked now part.ixl })))
+  seen_held key input part leaves is = over_keeps Held (watching table) watching_held (count table) _ (given_held key input (record part { ixl = all_clocked now part.ixl }) leaves (clocked_held part is))
 
 -- ---- the first rule and the last
 
@@ -314,13 +310,6 @@ module _ (law : StopLaw) (now : ℕ) (table : Table) (k : ℕ) (row : Row) (row_
       Q : StepSoFar → Type 0
       Q q = IsUpheld table q.ixl row
 
-  noting_upheld : (number : ℕ) (part : StepSoFar) → IsUpheld table part.ixl row → IsUpheld table (noting now table number part).ixl row
-  unfolding noting
-  noting_upheld number part is = route_keeps Q table number _ part (λ other route there here. where_keeps Q (table.is_strict && was_authorised route.phase) part _ (λ due. is) is) is
-    where
-      Q : StepSoFar → Type 0
-      Q q = IsUpheld table q.ixl row
-
 -- ---- steps
 
 pub step_waits : (site : Site) (table : Table) (k : ℕ) (input : Input) (world : WorldState) → LeavesSetting k input → At world.interlocking.ixl.routes k Waits → At (interlocking_stepped site table input world).interlocking.ixl.routes k GoesOn
@@ -336,7 +325,7 @@ step_waits site table k input world leaves is =
     begins = begun_with world.interlocking.ixl empty_outbox
 
     seen : StepSoFar
-    seen = seen_in now table (given now table (key_of site) input (found_in now begins))
+    seen = over (watching table) (count table) (given now table (key_of site) input (record begins { ixl = all_clocked now begins.ixl }))
 
     still : At (moved now table seen).ixl.routes k Waits
     still = until_moved now table k Waits waits_keep seen (over_keeps (λ (q : StepSoFar). At q.ixl.routes k Waits) (withdrawing now table) (waits_held now table k) (count table) seen (seen_held now table k Waits waits_keep (key_of site) input begins leaves is))
@@ -348,7 +337,7 @@ step_proceeds law site table k row input world there stand leaves upheld is =
     subst (λ (routes : List RouteState). At routes k HasAspect) (sym (ticks_bring_nothing now input (ruled now table seen)).routes)
     (still_proceeds law now table k row there seen
     (watched_held now table AnyCommand (StopsStand table) (stand_keep now table) (key_of site) input begins (λ command e. tt) stand)
-    (seen_keeps (λ (q : StepSoFar). IsUpheld table q.ixl row) now table (watching_upheld law now table k row there) (noting_upheld law now table k row there) _ upheld)
+    (over_keeps (λ (q : StepSoFar). IsUpheld table q.ixl row) (watching table) (watching_upheld law now table k row there) (count table) _ upheld)
     (seen_held now table k HasAspect proceeds_keep (key_of site) input begins leaves is))
   where
     now : ℕ
@@ -358,7 +347,7 @@ step_proceeds law site table k row input world there stand leaves upheld is =
     begins = begun_with world.interlocking.ixl empty_outbox
 
     seen : StepSoFar
-    seen = seen_in now table (given now table (key_of site) input (found_in now begins))
+    seen = over (watching table) (count table) (given now table (key_of site) input (record begins { ixl = all_clocked now begins.ixl }))
 
 -- ---- events
 

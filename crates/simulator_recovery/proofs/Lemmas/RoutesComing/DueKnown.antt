@@ -2,26 +2,23 @@
 use Rattle.simulator_recovery.proofs.Words.Basics.{◌≡◌, ◌≢◌, ◌⊎◌, inl, inr, ◌∙◌, ℕ, ◌≤◌, Bool, true, false, not, if◌then◌else◌, List, length, Some, None, slice_get, refl, sym, ap, subst, contains, empty, false≢true, same_Some, ◌&&◌, [], ◌∷◌, Option, Result, Ok, Err, bytes_eq}
 use Rattle.simulator_recovery.proofs.Words.Links.{opening, ticking as link_ticking, reading_of, OutboxState, LinkState, confirmed_items, is_up, receiving, is_open, Reason, reading as pdu_reading, Key, settled}
 use Rattle.simulator_recovery.proofs.Words.Controllers.{Aspect, Side, reading, SciFault, Initialisation, Message, Protocol, Telegram}
-use Rattle.simulator_recovery.proofs.Words.Interlockings.{ClientState, is_available, is_outside, is_ready, begun, calling, fallen, ticking, Stage, AllClear, AllKnown, IsAvailable, IsClear, IsKnownSignalAtStop, IsSignalReady, Known, KnownStop, ReportedBy, IxlState, KnownDetectorState, KnownPointState, KnownSignalState, Commands, Datagram, Input, Tick, detector_ticking, known_point_ticking, known_signal_ticking, ticked, StepSoFar, begun_with, detector_after, empty_outbox, known_point_after, known_signal_after, Need, Table, PeerState, new_client, ClientSoFar, Closes, Receives, initial_meaning, is_for_client, is_in_version, meaning, meaning_of, place_of, report_meaning, reports_changes, state_in, acting, acting_all, clocked, commanding, following, hearing, meaning_of_item, rising, Indication, ObjectState, commanded_by, obeyed, refusal, unmoved_for, count, addressed, clocked_known_point, detector_hearing, given, known_point_hearing, known_signal_hearing, looking, looking_by, looks, node_hearing, occupied_heard, side_heard, Detector, Node as IxlNode, Point, Signal, noted, with_detector, with_one, was_authorised, Command, Refusal, giving_move, closing_behind, watched}
+use Rattle.simulator_recovery.proofs.Words.Interlockings.{ClientState, is_available, is_outside, is_ready, begun, calling, fallen, ticking, Stage, AllClear, AllKnown, IsAvailable, IsClear, IsKnownSignalAtStop, IsSignalReady, Known, KnownStop, ReportedBy, IxlState, KnownDetectorState, KnownPointState, KnownSignalState, Commands, Datagram, Input, Tick, detector_ticking, known_point_ticking, known_signal_ticking, ticked, StepSoFar, begun_with, detector_after, empty_outbox, known_point_after, known_signal_after, Need, Table, PeerState, new_client, ClientSoFar, Closes, Receives, initial_meaning, is_for_client, is_in_version, meaning, meaning_of, place_of, report_meaning, reports_changes, state_in, acting, acting_all, clocked, commanding, following, hearing, meaning_of_item, rising, Indication, ObjectState, commanded_by, obeyed, refusal, unmoved_for, At, count, addressed, all_clocked, clocked_known_point, detector_hearing, given, known_point_hearing, known_signal_hearing, looking, looking_by, looks, node_hearing, occupied_heard, side_heard, Detector, Node as IxlNode, Point, Signal, noted, with_detector, with_one, was_authorised, Command, Refusal, giving_move}
 use Rattle.simulator_recovery.proofs.Words.Stations.{Places, Site, interlocking_stepped, key_of, WorldState, IsReached, Beginning, new_ixl, new_known_point_of}
-use Rattle.simulator_recovery.proofs.Words.Recovery.{ClientStandsAt, EachClient, IsInside, IsUpAtClock, known_in_step, ClientStandsByCounts}
+use Rattle.simulator_recovery.proofs.Words.Recovery.{ClientStandsAt, EachClient, IsInside, IsUpAtClock, known_in_step}
 use Rattle.simulator_spec.specs.layout.declared.ids.PointId.{PointId}
 use Rattle.simulator_recovery.proofs.Lemmas.Lamps.StopsGiven.{changed_elsewhere}
 use Rattle.simulator_recovery.proofs.Lemmas.Ground.MovedAtOnce.{moved_where}
-use Rattle.simulator_recovery.proofs.Lemmas.Ground.DueShapes.{one_keeps, over_keeps, along_keeps, route_keeps, where_keeps, found_in}
+use Rattle.simulator_recovery.proofs.Lemmas.Ground.DueShapes.{one_keeps, over_keeps, along_keeps, route_keeps, where_keeps}
 use Rattle.simulator_recovery.proofs.Lemmas.Ground.IxlAlways.{always_whole}
 use Rattle.simulator_recovery.proofs.Lemmas.Ground.IxlClients.{step_kept, ClientsKeep, mapped_at, point_client}
-use Rattle.simulator_recovery.proofs.Lemmas.Ground.FoundClients.{closing_peer, by_closing, closed_peer, shut}
 use Rattle.simulator_recovery.proofs.Lemmas.Ground.IxlSoFar.{set_at}
 use Rattle.simulator_recovery.proofs.Lemmas.Talk.Standing.{ClockedAt, clients_keep, new_clients}
 use Rattle.simulator_recovery.proofs.Lemmas.Lamps.ConfirmedStops.{client_ticks}
 use Rattle.simulator_recovery.proofs.Lemmas.Windows.WaitingItems.{ready_inside}
-use Rattle.simulator_recovery.proofs.Lemmas.Talk.ClientLinks.{clocked_peer, commanding_peer, hearing_peer, ticking_peer, up_open, ClockedStands, clocked_stands}
+use Rattle.simulator_recovery.proofs.Lemmas.Ground.AtLink.{mapped}
+use Rattle.simulator_recovery.proofs.Lemmas.Talk.ClientLinks.{clocked_peer, commanding_peer, hearing_peer, ticking_peer, up_open}
 use Rattle.simulator_recovery.proofs.Lemmas.Ground.LinkCounts.{close_closes}
 use Rattle.simulator_recovery.proofs.Lemmas.Ground.DueTests.{either}
-use Rattle.simulator_recovery.proofs.Lemmas.Ground.FoundIxl.{found_point, point_at, point_found, point_there}
-use Rattle.simulator_recovery.proofs.Lemmas.Ground.GoneClients.{IsGone, gone_outside, shut_gone}
-use Rattle.simulator_recovery.proofs.Lemmas.Points.GonePoints.{given_gone}
 
 -- ---- a tick brings nothing: after it each link is as it was, or outside
 
@@ -52,7 +49,7 @@ inside_ticks now client outbox inside = choose (is_up k.phase) refl inside
     late : ClientState
     late = record client { link = k }
 
-    choose : (b : Bool) → is_up k.phase ≡ b → is_outside (if b then late else record late { stage = Stage.Outside }).stage ≡ false → TicksInside client (watched now (if b then late else record late { stage = Stage.Outside }))
+    choose : (b : Bool) → is_up k.phase ≡ b → is_outside (if b then late else record late { stage = Stage.Outside }).stage ≡ false → TicksInside client (if b then late else record late { stage = Stage.Outside })
     choose true e f = record { same = refl; up = e }
     choose false e f = absurd (false≢true (sym f))
 
@@ -466,7 +463,7 @@ point_hears now bytes client outbox completed point = choose (is_up acted.client
     late : ClientSoFar
     late = record acted { client = record acted.client { stage = Stage.Outside } }
 
-    choose : (b : Bool) → is_up acted.client.link.phase ≡ b → is_outside (if b then acted.client else late.client).stage ≡ false → HearsNothing (record acted { client = watched now (if b then acted.client else late.client) })
+    choose : (b : Bool) → is_up acted.client.link.phase ≡ b → is_outside (if b then acted.client else late.client).stage ≡ false → HearsNothing (record acted { client = if b then acted.client else late.client })
     choose true e inside = let so = idle (up_open acted.client.link.phase e) in record { completed = so.completed; none = so.none }
     choose false e inside = absurd (false≢true (sym inside))
 
@@ -528,27 +525,16 @@ clocked_side now known up inside = choose (is_outside after.stage) refl
     choose true e = absurd (false≢true (sym inside ∙ (ap is_outside (sym same) ∙ e)))
     choose false e = (same, refl)
 
--- a point whose link is up by the clock is found as it was known; or its link isn't caught up any more, and was closed
-abbrev pub KnownOrGone : ℕ → Side → KnownPointState → Type 0
-KnownOrGone now side known = ((is_available known.client.stage ≡ true) × (known.side ≡ Some side)) ⊎ IsGone now known.client
-
-pub one_found : (now : ℕ) (side : Side) (was : KnownPointState) → ClientStandsByCounts was.client → is_up (settled now was.client.link).phase ≡ true → (is_available was.client.stage ≡ true) × (was.side ≡ Some side) → KnownOrGone now side (found_point now was)
-one_found now side was stands up is = by_closing (λ (x : ClientState). KnownOrGone now side (known_point_after c.side c.moved x)) now c.client
-    (λ behind. inr (subst (IsGone now) (sym (point_client c.side c.moved (shut now c.client))) (shut_gone now c.client clocked_so behind))) (λ calm. inl as_it_was)
+known_clocked : (now : ℕ) (ixl : IxlState) (point : ℕ) (side : Side) → Known ixl point side → At ixl.known_points point (λ known. is_up (settled now known.client.link).phase ≡ true) → Known (all_clocked now ixl) point side
+unfolding all_clocked
+known_clocked now ixl point side is up = (
+  clocked_known_point now is.0,
+  mapped (clocked_known_point now) ixl.known_points point is.0 is.1,
+  (ap is_available still.0 ∙ is.2.0, still.1 ∙ is.2.1),
+)
   where
-    c : KnownPointState
-    c = clocked_known_point now was
-
-    clocked_so : ClockedStands now c.client
-    clocked_so = subst (ClockedStands now) (sym (point_client was.side was.moved (clocked now was.client))) (clocked_stands now was.client stands)
-
-    still : (c.client.stage ≡ was.client.stage) × (c.side ≡ was.side)
-    still = clocked_side now was up (available_inside was.client.stage is.0)
-
-    as_it_was : (is_available (known_point_after c.side c.moved c.client).client.stage ≡ true) × ((known_point_after c.side c.moved c.client).side ≡ Some side)
-    as_it_was =
-        let kept = after_inside c.side c.moved c.client (ap (λ (x : ClientState). is_outside x.stage) (point_client c.side c.moved c.client) ∙ (ap is_outside still.0 ∙ available_inside was.client.stage is.0))
-        in (ap (λ (x : ClientState). is_available x.stage) kept.0 ∙ (ap is_available still.0 ∙ is.0), kept.1 ∙ (still.1 ∙ is.1))
+    still : ((clocked_known_point now is.0).client.stage ≡ is.0.client.stage) × ((clocked_known_point now is.0).side ≡ is.0.side)
+    still = clocked_side now is.0 (ap (λ (k : KnownPointState). is_up (settled now k.client.link).phase) (same_Some is.0 up.0 (sym is.1 ∙ up.1)) ∙ up.2) (available_inside is.0.client.stage is.2.0)
 
 -- ---- the clients of points
 
@@ -565,7 +551,6 @@ points_speak : (now : ℕ) → ClientsKeep now SpeaksPoint SpeaksPoint
 points_speak now = record {
   clock = λ node client is. same_protocol node client (clocked now client) (clocked_peer now client) is;
   weaker = λ node client is. is;
-  closes = λ node part is. same_protocol node part.client (closing_behind now part).client (closing_peer now part) is;
   hears = λ node bytes part is. same_protocol node part.client (hearing now bytes part).client (hearing_peer now bytes part) is;
   commands = λ node command part is. same_protocol node part.client (commanding now command part).client (commanding_peer now command part) is;
   ticks = λ node part is. same_protocol node part.client (ticking now part).client (ticking_peer now part) is;
@@ -589,11 +574,12 @@ speak_stepped site table input world is = step_kept now SpeaksPoint SpeaksPoint 
 pub always_speak : (site : Site) (table : Table) (world : WorldState) → IsReached site table world → EachClient SpeaksPoint world.interlocking.ixl
 always_speak site table = always_whole site table (EachClient SpeaksPoint) (new_speak site table) (speak_stepped site table)
 
-pub point_speaks : (now : ℕ) (part : StepSoFar) → EachClient SpeaksPoint part.ixl → (place : ℕ) (known : KnownPointState) → slice_get (found_in now part).ixl.known_points place ≡ Some known → known.client.peer.protocol ≡ Protocol.Point
-point_speaks now part speak place known e =
-    let was = point_at now part place known e
-    in ap (λ (k : KnownPointState). k.client.peer.protocol) was.2 ∙ (ap (λ (c : ClientState). c.peer.protocol) (point_found now was.0)
-    ∙ (ap (λ (peer : PeerState). peer.protocol) (closed_peer now (clocked now was.0.client) ∙ clocked_peer now was.0.client) ∙ speak.points place was.0 was.1))
+pub point_clocked : (now : ℕ) (ixl : IxlState) → EachClient SpeaksPoint ixl → (place : ℕ) (known : KnownPointState) → slice_get (all_clocked now ixl).known_points place ≡ Some known → known.client.peer.protocol ≡ Protocol.Point
+unfolding all_clocked
+point_clocked now ixl speak place known e =
+    let found = mapped_at (clocked_known_point now) ixl.known_points place known e
+    in ap (λ (k : KnownPointState). k.client.peer.protocol) found.2 ∙ (ap (λ (c : ClientState). c.peer.protocol) (point_client found.0.side found.0.moved (clocked now found.0.client))
+    ∙ (ap (λ (peer : PeerState). peer.protocol) (clocked_peer now found.0.client) ∙ speak.points place found.0 found.1))
 
 -- ---- what is heard
 
@@ -682,27 +668,16 @@ module _ (now : ℕ) (table : Table) (point : ℕ) (side : Side) where
 -- No command that comes moves this point.
 abbrev pub NotMoved : Table → Input → WorldState → ℕ → Type 0
 NotMoved table input world point = (moved : PointId) (to : Side) → input ≡ Commands (Command.Move moved to) → moved.0 ≡ point
-    → refusal (reading_of world.interlocking.clock) table (Command.Move moved to) (found_in (reading_of world.interlocking.clock) (begun_with world.interlocking.ixl empty_outbox)).ixl ≡ None → ⊥
+    → refusal (reading_of world.interlocking.clock) table (Command.Move moved to) (all_clocked (reading_of world.interlocking.clock) world.interlocking.ixl) ≡ None → ⊥
 
--- After the clock and the input of a step. A point whose link was closed is outside then.
+-- After the clock and the input of a step.
 pub known_heard : (site : Site) (table : Table) (input : Input) (world : WorldState) (point : ℕ) (side : Side) → NotMoved table input world point → IsReached site table world → Known world.interlocking.ixl point side → IsUpAtClock world point
     → KnownInside point side (known_in_step site table input world)
-known_heard site table input world point side unmoved reached is up =
-    by_found (one_found now side is.0 ((clients_stand site table world reached).points point is.0 is.1).stands (ap (λ (k : KnownPointState). is_up (settled now k.client.link).phase) (same_Some is.0 up.0 (sym is.1 ∙ up.1)) ∙ up.2) is.2)
+known_heard site table input world point side unmoved reached is up = given_inside now table point side (key_of site) input (begun_with (all_clocked now world.interlocking.ixl) empty_outbox)
+    unmoved (point_clocked now world.interlocking.ixl (always_speak site table world reached)) (known_clocked now world.interlocking.ixl point side is up)
   where
     now : ℕ
     now = reading_of world.interlocking.clock
-
-    part : StepSoFar
-    part = begun_with world.interlocking.ixl empty_outbox
-
-    there : slice_get (found_in now part).ixl.known_points point ≡ Some (found_point now is.0)
-    there = point_there now part point is.0 is.1
-
-    by_found : KnownOrGone now side (found_point now is.0) → KnownInside point side (known_in_step site table input world)
-    by_found (inl stays) known e inside = given_inside now table point side (key_of site) input (found_in now part) unmoved (point_speaks now part (always_speak site table world reached)) (found_point now is.0, there, stays) known e inside
-    by_found (inr gone) known e inside =
-        absurd (gone_outside now known.client (given_gone now point table (key_of site) input (found_in now part) (λ other f. subst (λ (x : KnownPointState). IsGone now x.client) (same_Some (found_point now is.0) other (sym there ∙ f)) gone) known e) inside)
 
 pub known_in : (site : Site) (table : Table) (input : Input) (world : WorldState) (point : ℕ) (side : Side) → NotMoved table input world point → IsReached site table world → Known world.interlocking.ixl point side → IsUpAtClock world point
     → IsInside (known_in_step site table input world) point → Known (known_in_step site table input world) point side

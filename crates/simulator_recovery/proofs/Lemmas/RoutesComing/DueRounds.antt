@@ -2,12 +2,12 @@
 use Rattle.simulator_recovery.proofs.Words.Basics.{◌≡◌, ◌<◌, ℕ, ◌==◌, ◌&&◌, Bool, true, false, List, slice_get, refl, sym, ap, subst, ◌∙◌, ◌||◌, not, false≢true, Some, Contains, Contains-get_or, ◌⊎◌, inl, inr, [], ◌∷◌, map}
 use Rattle.simulator_recovery.proofs.Words.Links.{reading_of, Each}
 use Rattle.simulator_recovery.proofs.Words.Controllers.{Aspect, Side}
-use Rattle.simulator_recovery.proofs.Words.Interlockings.{lies_in_closed, is_available, is_outside, is_ready, AllClear, IsSignalReady, authorised, come_to, count, ended, ending_authority, freed_by_cancel, freed_by_passage, freeing_by_cancel, freeing_by_passage, freeing_next, frees_cancelled, frees_next, is_move_due, is_over_clear, is_proceed_due, is_proceeding, is_stop_due, is_unmoved, is_waiting, is_withdrawn, moved, moving, moving_one, proceeding, ruled, stopped, withdrawing, withdrawn, IxlState, KnownDetectorState, KnownPointState, KnownSignalState, RouteState, Input, stepped, ticked, watching, StepSoFar, giving_aspect, giving_move, with_route, Need, Row, Table, is_at_known_stop, is_held_with_authority, is_known, is_point_available, is_signal_ready, Phase, IsTableOf, At, Known, SitedTable, is_set, freed_sections, noting, was_authorised, begun_with, empty_outbox}
+use Rattle.simulator_recovery.proofs.Words.Interlockings.{lies_in_closed, is_available, is_outside, is_ready, AllClear, IsSignalReady, authorised, come_to, count, ended, ending_authority, freed_by_cancel, freed_by_passage, freeing_by_cancel, freeing_by_passage, freeing_next, frees_cancelled, frees_next, is_move_due, is_over_clear, is_proceed_due, is_proceeding, is_stop_due, is_unmoved, is_waiting, is_withdrawn, moved, moving, moving_one, proceeding, ruled, stopped, withdrawing, withdrawn, IxlState, KnownDetectorState, KnownPointState, KnownSignalState, RouteState, Input, stepped, ticked, watching, StepSoFar, giving_aspect, giving_move, over, with_route, Need, Row, Table, is_at_known_stop, is_held_with_authority, is_known, is_point_available, is_signal_ready, Phase, IsTableOf, At, Known, SitedTable, all_clocked, is_set, freed_sections}
 use Rattle.simulator_recovery.proofs.Words.Stations.{Site, interlocking_stepped, WorldState, Event, happens, IsReached, RoundEvent, Flowing, all_did, did, due, reaches, round, Played, after}
 use Rattle.simulator_recovery.proofs.Words.Recovery.{IsClearFor, IsInside, known_in_step, HasPointsUp, IsUpheld, KeepsSetting, HasAspect, MoveLaw, StopLaw, EachFinds, FindsUpheld, RoundsFind, Waits, all_tried, good_rounds, LawsBelow, RequestLaw, ProceedLaw}
 use Rattle.simulator_recovery.proofs.Lemmas.Ground.MovedAtOnce.{held_unmoved}
 use Rattle.simulator_recovery.proofs.Lemmas.RoutesComing.HeldNeeds.{heard_in, seen_in}
-use Rattle.simulator_recovery.proofs.Lemmas.Ground.DueShapes.{along_keeps, over_keeps, passage_keeps, route_keeps, where_keeps, found_in, seen_in as all_seen, seen_keeps}
+use Rattle.simulator_recovery.proofs.Lemmas.Ground.DueShapes.{along_keeps, over_keeps, passage_keeps, route_keeps, where_keeps}
 use Rattle.simulator_recovery.proofs.Lemmas.Ground.DueTests.{at_shown}
 use Rattle.simulator_recovery.proofs.Lemmas.RoutesComing.DueKnown.{BringsNothing, all_clear_before, available_inside, ready_before, ticks_bring_nothing, known_in, NotMoved}
 use Rattle.simulator_recovery.proofs.Lemmas.RoutesComing.NothingDueMoves.{MoveLeaves, move_leaves}
@@ -20,7 +20,6 @@ use Rattle.simulator_recovery.proofs.Lemmas.Ground.IxlAlways.{event_then}
 use Rattle.simulator_recovery.proofs.Lemmas.RoutesComing.NothingDueStops.{all_rest, holds_each}
 use Rattle.simulator_recovery.proofs.Lemmas.RoutesComing.DueStops.{known_proceeds}
 use Rattle.simulator_recovery.proofs.Lemmas.Rounds.Rounds.{AllAre, behind_time_are, IsAt, tried_keeps, tried_reached}
-use Rattle.simulator_recovery.proofs.Lemmas.Ground.FoundIxl.{found_routes}
 
 -- ---- the rules of a step bring up no link: what is in a connection after a step was so after its input
 
@@ -122,11 +121,7 @@ module _ (now : ℕ) (table : Table) (old : IxlState) where
   unfolding watching
   watching_held number part is = route_keeps Held table number _ part (λ row one there here. where_keeps Held (is_proceeding one.phase || is_withdrawn one.phase) part _ (λ due. changed_held number _ part is) is) is
 
-  noting_held : (number : ℕ) (part : StepSoFar) → Held part → Held (noting now table number part)
-  unfolding noting
-  noting_held number part is = route_keeps Held table number _ part (λ row one there here. where_keeps Held (table.is_strict && was_authorised one.phase) part _ (λ due. changed_held number _ part is) is) is
-
-  rules_held : (part : StepSoFar) → Held part → Held (ruled now table (all_seen now table part))
+  rules_held : (part : StepSoFar) → Held part → Held (ruled now table (over (watching table) (count table) part))
   rules_held part is =
       over_keeps Held (proceeding now table) proceeding_held (count table) (moved now table seen)
       (over_keeps Held (moving now table) moving_held (count table) (freed_by_cancel now table seen)
@@ -134,10 +129,10 @@ module _ (now : ℕ) (table : Table) (old : IxlState) where
       (over_keeps Held (freeing_by_passage table) passage_held (count table) (ended now table seen)
       (over_keeps Held (ending_authority now table) ending_held (count table) (withdrawn now table seen)
       (over_keeps Held (withdrawing now table) withdrawing_held (count table) seen
-      (seen_keeps Held now table watching_held noting_held part is))))))
+      (over_keeps Held (watching table) watching_held (count table) part is))))))
     where
       seen : StepSoFar
-      seen = all_seen now table part
+      seen = over (watching table) (count table) part
 
 -- ---- a step
 
@@ -166,21 +161,18 @@ clear_in_step site table input world row clear = record {
 
 pub clear_goes_on : StopLaw → MoveLaw → (site : Site) (table : Table) (one : Event) (world : WorldState) (number : ℕ) (row : Row) → IsTableOf site table → IsReached site table world → slice_get table.rows number ≡ Some row → KeepsSetting site number one
     → HasPointsUp world row → IsClearFor table (happens site table one world).interlocking.ixl row → At world.interlocking.ixl.routes number HasAspect → At (happens site table one world).interlocking.ixl.routes number HasAspect
+unfolding all_clocked
 clear_goes_on stop move site table one world number row is_table reached there keeps up clear is = event_then site table (λ ixl. IsClearFor table ixl row → At ixl.routes number HasAspect) world (λ still. is) one
     (λ input e clear_behind. step_proceeds stop site table number row input world there (standing_then site table world reached) (leaves_of site number one input keeps e) (upheld input (clear_in_step site table input world row clear_behind)) is)
     (λ begins anew still. absurd (not_anew site number one keeps anew)) clear
   where
-    begins : StepSoFar
-    begins = begun_with world.interlocking.ixl empty_outbox
-
     known : (need : Need) → Contains row.needs need → Known world.interlocking.ixl need.point need.side
     known need within = (all_rest stop move site table (holds_each site table is_table) world reached number row is.0 (there, is.1) is.2.0).points need within (up.ready need within)
 
     -- its points are held, so no command moves them
     unmoved : (input : Input) (need : Need) → Contains row.needs need → NotMoved table input world need.point
     unmoved input need within moved to same here none =
-        held_unmoved (reading_of world.interlocking.clock) table (found_in (reading_of world.interlocking.clock) begins).ixl number row is.0 need there
-        (ap (λ (routes : List RouteState). slice_get routes number) (found_routes (reading_of world.interlocking.clock) begins) ∙ is.1) within (ap is_set is.2.0)
+        held_unmoved (reading_of world.interlocking.clock) table (all_clocked (reading_of world.interlocking.clock) world.interlocking.ixl) number row is.0 need there is.1 within (ap is_set is.2.0)
         (subst (λ (n : ℕ). n < need.until) (sym (ap freed_sections is.2.0)) (holds_each site table is_table number row need there within)) moved to here none
 
     upheld : (input : Input) → IsClearFor table (known_in_step site table input world) row → IsUpheld table (known_in_step site table input world) row

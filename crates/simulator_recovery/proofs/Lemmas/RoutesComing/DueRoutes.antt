@@ -2,11 +2,11 @@
 use Rattle.simulator_recovery.proofs.Words.Basics.{◌≡◌, ◌≢◌, ◌⊎◌, inl, inr, ℕ, suc, ◌≤◌, ◌==◌, ◌&&◌, Bool, true, false, if◌then◌else◌, List, length, Option, Some, None, slice_get, refl, sym, ap, subst, ◌∙◌, arith, ◌||◌, nat_cmp_total, unsigned_tied, contains, contains-insert, insert, Contains, false≢true, same_Some}
 use Rattle.simulator_recovery.proofs.Words.Links.{reading_of, reading, Key}
 use Rattle.simulator_recovery.proofs.Words.Controllers.{Side}
-use Rattle.simulator_recovery.proofs.Words.Interlockings.{begun, hearing, commanded_by, obeyed, refusal, released_at, set_anew, Admissible, HoldsPoint, authorised, come_to, count, ended, ending_authority, freed, freed_by_cancel, freed_by_passage, freeing_by_cancel, freeing_by_passage, freeing_next, frees_cancelled, frees_next, is_move_due, is_proceed_due, is_proceeding, is_stop_due, is_waiting, is_withdrawn, moved, moving, moving_one, one_freed, proceeding, ruled, withdrawing, withdrawn, IxlState, RouteState, changed, Commands, Datagram, Input, Tick, addressed, detector_hearing, given, known_point_hearing, known_signal_hearing, looking, looking_by, looks, node_hearing, occupied_heard, route_looks, stepped, watching, Detector, Node, Point, Signal, StepSoFar, begun_with, detector_after, empty_outbox, noted, with_detector, with_one, with_route, Need, Row, Table, freed_sections, is_at_known_stop, is_set, place_in, was_authorised, Command, Refusal, Phase, giving_move, noting}
+use Rattle.simulator_recovery.proofs.Words.Interlockings.{begun, hearing, commanded_by, obeyed, refusal, released_at, set_anew, Admissible, HoldsPoint, authorised, come_to, count, ended, ending_authority, freed, freed_by_cancel, freed_by_passage, freeing_by_cancel, freeing_by_passage, freeing_next, frees_cancelled, frees_next, is_move_due, is_proceed_due, is_proceeding, is_stop_due, is_waiting, is_withdrawn, moved, moving, moving_one, one_freed, proceeding, ruled, withdrawing, withdrawn, IxlState, RouteState, changed, Commands, Datagram, Input, Tick, addressed, all_clocked, detector_hearing, given, known_point_hearing, known_signal_hearing, looking, looking_by, looks, node_hearing, occupied_heard, route_looks, stepped, watching, Detector, Node, Point, Signal, StepSoFar, begun_with, detector_after, empty_outbox, noted, over, with_detector, with_one, with_route, Need, Row, Table, freed_sections, is_at_known_stop, is_set, place_in, was_authorised, Command, Refusal, Phase, giving_move}
 use Rattle.simulator_recovery.proofs.Words.Stations.{Places, Site, RouteId, Beginning, new_ixl, new_route_of, interlocking_stepped, key_of, WorldState, IsReached}
 use Rattle.simulator_recovery.proofs.Words.Recovery.{RequestLaw}
 use Rattle.simulator_recovery.proofs.Lemmas.RoutesComing.DueCourse.{stopped_leaves}
-use Rattle.simulator_recovery.proofs.Lemmas.Ground.DueShapes.{along_keeps, one_keeps, over_keeps, passage_keeps, route_keeps, where_keeps, found_in, seen_in, seen_keeps}
+use Rattle.simulator_recovery.proofs.Lemmas.Ground.DueShapes.{along_keeps, one_keeps, over_keeps, passage_keeps, route_keeps, where_keeps}
 use Rattle.simulator_recovery.proofs.Lemmas.RoutesComing.DueKnown.{ticks_bring_nothing}
 use Rattle.simulator_recovery.proofs.Lemmas.Ground.IxlAlways.{always}
 use Rattle.simulator_recovery.proofs.Lemmas.Ground.IxlClients.{changed_at, mapped_at}
@@ -16,7 +16,6 @@ use Rattle.simulator_recovery.proofs.Lemmas.Ground.SignalParts.{is_waiting_there
 use Rattle.simulator_recovery.proofs.Lemmas.Lamps.StopsGiven.{waiting_set}
 use Rattle.simulator_recovery.proofs.Lemmas.Ground.DueTests.{first_true}
 use Rattle.simulator_recovery.proofs.Lemmas.Ground.MovedAtOnce.{moved_keeps}
-use Rattle.simulator_recovery.proofs.Lemmas.Ground.FoundIxl.{found_routes}
 
 -- ---- how a route goes on
 
@@ -182,10 +181,6 @@ module _ (now : ℕ) (table : Table) (P : List RouteState → Type 0) (onward : 
   unfolding watching
   watching_held number part is = route_keeps Held table number _ part (λ other one there here. where_keeps Held (is_proceeding one.phase || is_withdrawn one.phase) part _ (λ due. turned number _ part one here (same_phase one _ refl refl) is) is) is
 
-  pub noting_held : (number : ℕ) (part : StepSoFar) → Held part → Held (noting now table number part)
-  unfolding noting
-  noting_held number part is = route_keeps Held table number _ part (λ other one there here. where_keeps Held (table.is_strict && was_authorised one.phase) part _ (λ due. turned number _ part one here (same_phase one _ refl refl) is) is) is
-
   looking_held : (look : ℕ × Bool) (part : StepSoFar) → Held part → Held (looking table look part)
   unfolding looking_by
   looking_held look part is = over_keeps Held (looking_by look.0 look.1 table) (λ number q all. route_keeps Held table number _ q (λ other one there here. where_keeps Held (was_authorised one.phase) q _
@@ -232,11 +227,12 @@ module _ (now : ℕ) (table : Table) (P : List RouteState → Type 0) (keep : Ro
       moved_keeps Holds now table (λ point side q available all. one_keeps Holds (slice_get q.ixl.known_points point) _ q (λ known e. all) all)
       (refusal now table command part.ixl) command part refl (commanded_held (refusal now table command part.ixl) command part refl is)
 
-  found_held : (part : StepSoFar) → Holds part → Holds (found_in now part)
-  found_held part is = subst P (sym (found_routes now part)) is
+  clocked_held : (part : StepSoFar) → Holds part → Holds (record part { ixl = all_clocked now part.ixl })
+  unfolding all_clocked
+  clocked_held part is = is
 
-  pub seen_held : (key : Key) (input : Input) (part : StepSoFar) → Holds part → Holds (seen_in now table (given now table key input (found_in now part)))
-  seen_held key input part is = seen_keeps Holds now table (watching_held now table P keep.onward) (noting_held now table P keep.onward) _ (given_held key input (found_in now part) (found_held part is))
+  pub seen_held : (key : Key) (input : Input) (part : StepSoFar) → Holds part → Holds (over (watching table) (count table) (given now table key input (record part { ixl = all_clocked now part.ixl })))
+  seen_held key input part is = over_keeps Holds (watching table) (watching_held now table P keep.onward) (count table) _ (given_held key input (record part { ixl = all_clocked now part.ixl }) (clocked_held part is))
 
   pub step_held : (key : Key) (input : Input) (part : StepSoFar) → Holds part → Holds (stepped now table key input part)
   unfolding stepped

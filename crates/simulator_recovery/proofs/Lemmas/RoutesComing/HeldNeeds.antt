@@ -2,7 +2,7 @@
 use Rattle.simulator_recovery.proofs.Words.Basics.{◌≡◌, ℕ, zero, suc, ◌<◌, ◌==◌, Bool, true, false, List, [], ◌∷◌, Option, Some, None, slice_get, refl, sym, ap, subst, ◌∙◌, arith, map, ◌||◌, Contains, false≢true, same_Some, inl, inr, length, All-contains}
 use Rattle.simulator_recovery.proofs.Words.Links.{reading_of}
 use Rattle.simulator_recovery.proofs.Words.Controllers.{Side}
-use Rattle.simulator_recovery.proofs.Words.Interlockings.{IsTableOf, as_point, required, is_available, is_outside, new_client, HoldsPoint, IsHeldAt, Known, MoveDue, authorised, count, freed_by_cancel, freed_by_passage, freeing_by_cancel, freeing_by_passage, is_move_due, is_proceed_due, is_proceeding, is_waiting, is_withdrawn, moved, moving, moving_one, proceeding, ruled, ended, IxlState, KnownPointState, RouteState, Input, given, stepped, ticked, watching, StepSoFar, begun_with, empty_outbox, giving_aspect, over, with_route, Need, Row, Table, freed_sections, is_set, as_route, noting}
+use Rattle.simulator_recovery.proofs.Words.Interlockings.{IsTableOf, as_point, required, is_available, is_outside, new_client, HoldsPoint, IsHeldAt, Known, MoveDue, authorised, count, freed_by_cancel, freed_by_passage, freeing_by_cancel, freeing_by_passage, is_move_due, is_proceed_due, is_proceeding, is_waiting, is_withdrawn, moved, moving, moving_one, proceeding, ruled, ended, IxlState, KnownPointState, RouteState, Input, all_clocked, given, stepped, ticked, watching, StepSoFar, begun_with, empty_outbox, giving_aspect, over, with_route, Need, Row, Table, freed_sections, is_set, as_route}
 use Rattle.simulator_recovery.proofs.Words.Stations.{InLayoutOrder, Site, Event, Beginning, new_ixl, new_known_point_of, happens, interlocking_stepped, key_of, WorldState, IsReached, Passage, Path, RouteRequires, IsRoute, Joined, RouteEntry, HasElement, HasPort, IsRouteOf, IsStation, Joint, PointId, RouteId, Port}
 use Rattle.simulator_recovery.proofs.Words.Recovery.{IsInside, IsUpAtClock, known_in_step, MoveLaw, RequestLaw}
 use Rattle.simulator_recovery.proofs.Lemmas.Points.SidesRoutes.{until_moves}
@@ -11,7 +11,7 @@ use Rattle.simulator_recovery.proofs.Lemmas.RoutesComing.DueAccepted.{until_free
 use Rattle.simulator_recovery.proofs.Lemmas.Ground.IxlAlways.{event_then}
 use Rattle.simulator_recovery.proofs.Lemmas.RoutesComing.DueKnown.{KnownInside, known_heard, known_inside, BringsNothing, available_inside, ticks_bring_nothing, NotMoved}
 use Rattle.simulator_recovery.proofs.Lemmas.RoutesComing.DueRoutes.{PointsApart, always_apart, apart_keep, authorised_onward, before, cancel_held, passage_held, seen_held, two_rules}
-use Rattle.simulator_recovery.proofs.Lemmas.Ground.DueShapes.{along_keeps, along_within, no_route, over_keeps, route_keeps, where_keeps, found_in, seen_in as seen_behind, seen_keeps}
+use Rattle.simulator_recovery.proofs.Lemmas.Ground.DueShapes.{along_keeps, along_within, no_route, over_keeps, route_keeps, where_keeps}
 use Rattle.simulator_recovery.proofs.Lemmas.Ground.IxlClients.{mapped_at}
 use Rattle.simulator_recovery.proofs.Lemmas.RoutesComing.NothingDueMoves.{MoveLeaves, move_leaves}
 use Rattle.simulator_recovery.proofs.Lemmas.RoutesComing.NothingDueProceeds.{aspect_leaves}
@@ -177,15 +177,8 @@ look_points table number part = route_keeps Q table number _ part (λ row one th
     Q : StepSoFar → Type 0
     Q q = q.ixl.known_points ≡ part.ixl.known_points
 
-note_points : (now : ℕ) (table : Table) (number : ℕ) (part : StepSoFar) → (noting now table number part).ixl.known_points ≡ part.ixl.known_points
-unfolding noting
-note_points now table number part = route_keeps Q table number _ part (λ row one there here. where_keeps Q _ part _ (λ due. refl) refl) refl
-  where
-    Q : StepSoFar → Type 0
-    Q q = q.ixl.known_points ≡ part.ixl.known_points
-
-watching_points : (now : ℕ) (table : Table) (part : StepSoFar) → (seen_behind now table part).ixl.known_points ≡ part.ixl.known_points
-watching_points now table part = seen_keeps Q now table one_looks one_notes part refl
+watching_points : (table : Table) (part : StepSoFar) → (over (watching table) (count table) part).ixl.known_points ≡ part.ixl.known_points
+watching_points table part = over_keeps Q (watching table) one_looks (count table) part refl
   where
     Q : StepSoFar → Type 0
     Q q = q.ixl.known_points ≡ part.ixl.known_points
@@ -193,18 +186,15 @@ watching_points now table part = seen_keeps Q now table one_looks one_notes part
     one_looks : (number : ℕ) (q : StepSoFar) → Q q → Q (watching table number q)
     one_looks number q is = look_points table number q ∙ is
 
-    one_notes : (number : ℕ) (q : StepSoFar) → Q q → Q (noting now table number q)
-    one_notes number q is = note_points now table number q ∙ is
-
 pub in_order_of : (site : Site) (table : Table) → IsTableOf site table → InOrder table
 in_order_of site table is number row there = (is.rows.their number row there).needs.order
 
 -- the state of a step after the input, and before the rules
 abbrev pub heard_in : Site → Table → Input → WorldState → StepSoFar
-heard_in site table input world = given (reading_of world.interlocking.clock) table (key_of site) input (found_in (reading_of world.interlocking.clock) (begun_with world.interlocking.ixl empty_outbox))
+heard_in site table input world = given (reading_of world.interlocking.clock) table (key_of site) input (begun_with (all_clocked (reading_of world.interlocking.clock) world.interlocking.ixl) empty_outbox)
 
 abbrev pub seen_in : Site → Table → Input → WorldState → StepSoFar
-seen_in site table input world = seen_behind (reading_of world.interlocking.clock) table (heard_in site table input world)
+seen_in site table input world = over (watching table) (count table) (heard_in site table input world)
 
 module _ (move : MoveLaw) (request : RequestLaw) (site : Site) (table : Table) (is_table : IsTableOf site table) (world : WorldState) (reached : IsReached site table world) (input : Input) (point : ℕ) (side : Side) where
   abbrev now : ℕ
@@ -251,7 +241,7 @@ module _ (move : MoveLaw) (request : RequestLaw) (site : Site) (table : Table) (
 
   -- rules and looks change no point before it
   pub same_points : at_moves.ixl.known_points ≡ (known_in_step site table input world).known_points
-  same_points = (until_freed now table seen.ixl seen (refl, refl, refl)).0 ∙ watching_points now table (heard_in site table input world)
+  same_points = (until_freed now table seen.ixl seen (refl, refl, refl)).0 ∙ watching_points table (heard_in site table input world)
 
 module _ (move : MoveLaw) (request : RequestLaw) (site : Site) (table : Table) (is_table : IsTableOf site table) (world : WorldState) (reached : IsReached site table world) (point : ℕ) (side : Side) where
   -- a point that is known after the input of a step, and held at this side after the step, is known after it
@@ -295,7 +285,7 @@ module _ (move : MoveLaw) (request : RequestLaw) (site : Site) (table : Table) (
   not_moved : (input : Input) → IsHeldAt table (interlocking_stepped site table input world).interlocking.ixl point side → NotMoved table input world point
   not_moved input held place to is same none =
       let now = reading_of world.interlocking.clock
-      in let clocked = found_in now (begun_with world.interlocking.ixl empty_outbox)
+      in let clocked = begun_with (all_clocked now world.interlocking.ixl) empty_outbox
       in let is_held = holder move request site table is_table world reached input point side held
       in let was = until_moves request now table point side (heard_in site table input world) (is_held.number, is_held.row, is_held.route, (is_held.row_there, is_held.there), is_held.held)
       in held_unmoved now table clocked.ixl was.0 was.1 was.2 was.4.1.0 was.3.0

@@ -1,11 +1,11 @@
 -- No cancelled route waits that may be freed: it is free in the step in which it lets itself be freed.
 use Rattle.simulator_recovery.proofs.Words.Basics.{◌≡◌, ◌≢◌, ◌⊎◌, inl, inr, ℕ, suc, ◌+◌, ◌-◌, ◌^◌, min, ◌<◌, ◌≤◌, ◌==◌, ◌&&◌, Bool, true, false, List, Option, Some, None, slice_get, refl, sym, ap, subst, ◌∙◌, arith, false≢true, nat_tests, none-some, same_Some}
 use Rattle.simulator_recovery.proofs.Words.Links.{quiet_until, reading_of, LinkState}
-use Rattle.simulator_recovery.proofs.Words.Interlockings.{is_outside, AllClear, FreeByCancel, IsReleaseOver, IsRouteOf, KnownStop, LetsGo, authorised, count, ended, freed, freed_by_cancel, freed_by_passage, freeing_by_cancel, frees_cancelled, is_move_due, is_proceed_due, is_waiting, moved, moving, moving_one, proceeding, ruled, IxlState, KnownDetectorState, KnownSignalState, RouteState, changed, Input, given, stepped, ticked, StepSoFar, begun_with, empty_outbox, giving_aspect, giving_move, over, with_route, Need, Row, Table, is_set, Phase, HasFreshReports}
+use Rattle.simulator_recovery.proofs.Words.Interlockings.{is_outside, AllClear, FreeByCancel, IsReleaseOver, IsRouteOf, KnownStop, LetsGo, authorised, count, ended, freed, freed_by_cancel, freed_by_passage, freeing_by_cancel, frees_cancelled, is_move_due, is_proceed_due, is_waiting, moved, moving, moving_one, proceeding, ruled, IxlState, KnownDetectorState, KnownSignalState, RouteState, changed, Input, all_clocked, given, stepped, ticked, watching, StepSoFar, begun_with, empty_outbox, giving_aspect, giving_move, over, with_route, Need, Row, Table, is_set, Phase}
 use Rattle.simulator_recovery.proofs.Words.Stations.{Site, Beginning, new_ixl, new_route_of, interlocking_stepped, key_of, WorldState, IsReached}
 use Rattle.simulator_recovery.proofs.Words.Recovery.{ClientStandsAt, EachClient, FreeLaw}
 use Rattle.simulator_recovery.proofs.Lemmas.Lamps.ConfirmedStops.{new_stands, standing_then, stepped_stands}
-use Rattle.simulator_recovery.proofs.Lemmas.Ground.DueShapes.{along_keeps, each_over, no_route, over_keeps, route_keeps, where_keeps, found_in, seen_in}
+use Rattle.simulator_recovery.proofs.Lemmas.Ground.DueShapes.{along_keeps, each_over, no_route, over_keeps, route_keeps, where_keeps}
 use Rattle.simulator_recovery.proofs.Lemmas.RoutesComing.DueKnown.{BringsNothing, all_clear_before, clients_stepped, known_stop_before, ticks_bring_nothing, up_inside}
 use Rattle.simulator_recovery.proofs.Lemmas.Ground.IxlAlways.{always_whole}
 use Rattle.simulator_recovery.proofs.Lemmas.Ground.IxlClients.{changed_at, mapped_at}
@@ -31,7 +31,7 @@ free_still : (now : ℕ) (table : Table) (old new : IxlState) (row : Row) (route
 free_still now table old new row route detectors stops (cancelled, inl (waits, stop)) = (cancelled, inl (waits, stops waits stop))
 free_still now table old new row route detectors stops (cancelled, inr (clock, done, is, inl lets)) = (
   cancelled,
-  inr (clock, done, is, inl (record { unseen = lets.unseen; clear = subst (λ (ds : List KnownDetectorState). AllClear table (record new { detectors = ds }) row.sections) detectors lets.clear; approach = lets.approach; fresh = lets.fresh })),
+  inr (clock, done, is, inl (record { unseen = lets.unseen; clear = subst (λ (ds : List KnownDetectorState). AllClear table (record new { detectors = ds }) row.sections) detectors lets.clear; approach = lets.approach })),
 )
 free_still now table old new row route detectors stops (cancelled, inr (clock, done, is, inr over)) = (cancelled, inr (clock, done, is, inr over))
 
@@ -173,12 +173,9 @@ free_before site table old new brings stand now row route (cancelled, inr (clock
     in absurd (omega (arith, late))
 free_before site table old new brings stand now row route (cancelled, inr (clock, done, is, inl lets)) = (
   cancelled,
-  inr (clock, done, is, inl (record { unseen = lets.unseen; clear = all_clear_before table old new brings row.sections lets.clear; approach = inl (unapproached lets.approach); fresh = λ strict. none_fresh (lets.fresh strict) })),
+  inr (clock, done, is, inl (record { unseen = lets.unseen; clear = all_clear_before table old new brings row.sections lets.clear; approach = inl (unapproached lets.approach) })),
 )
   where
-    none_fresh : HasFreshReports 0 route clock → HasFreshReports now route clock
-    none_fresh fresh = let early : min (clock + 1800) (2 ^ 64 - 1) ≤ 0 = fresh.ended in absurd (omega (arith, early))
-
     unapproached : (route.approached ≡ false) ⊎ (min (clock + 120000) (2 ^ 64 - 1) ≤ 0) → route.approached ≡ false
     unapproached (inl never) = never
     unapproached (inr late) = absurd (omega (arith, late))
@@ -199,7 +196,7 @@ module _ (law : FreeLaw) (site : Site) (table : Table) (input : Input) (world : 
   begins = begun_with world.interlocking.ixl empty_outbox
 
   seen : StepSoFar
-  seen = seen_in at_clock table (given at_clock table (key_of site) input (found_in at_clock begins))
+  seen = over (watching table) (count table) (given at_clock table (key_of site) input (record begins { ixl = all_clocked at_clock begins.ixl }))
 
   abbrev rules : StepSoFar
   rules = ruled at_clock table seen
@@ -224,7 +221,7 @@ module _ (law : FreeLaw) (site : Site) (table : Table) (input : Input) (world : 
   unfolding interlocking_stepped stepped begins seen
   step_lets_go number row route clock done is cancelled ends (inl lets) = rules_free number row route is (
     cancelled,
-    inr (clock, done, ends, inl (record { unseen = lets.unseen; clear = all_clear_before table rules.ixl _ brings row.sections lets.clear; approach = lets.approach; fresh = lets.fresh })),
+    inr (clock, done, ends, inl (record { unseen = lets.unseen; clear = all_clear_before table rules.ixl _ brings row.sections lets.clear; approach = lets.approach })),
   )
   step_lets_go number row route clock done is cancelled ends (inr over) = rules_free number row route is (cancelled, inr (clock, done, ends, inr over))
 

@@ -3,12 +3,12 @@ use Rattle.simulator_recovery.proofs.Words.Basics.{◌≡◌, ◌≢◌, ◌⊎�
 use Rattle.simulator_recovery.proofs.Words.Links.{reading_of, is_up}
 use Rattle.simulator_recovery.proofs.Words.Controllers.{Side}
 use Rattle.simulator_spec.specs.ixl_spec.closings.declared.closed.Closings.{Closings}
-use Rattle.simulator_recovery.proofs.Words.Interlockings.{LiesInClosed, ClientState, is_available, is_outside, ClientSoFar, begun, commanding, fallen, message_of, posting, stage_after_command, Stage, IsAvailable, IsClear, IsHeldWithAuthority, IsRouteOf, MoveDue, authorised, count, freed_by_cancel, is_move_due, is_proceed_due, is_waiting, moved, moving, moving_one, proceeding, ruled, IxlState, KnownDetectorState, KnownPointState, RouteState, changed, Input, given, stepped, ticked, StepSoFar, all_below, along, begun_with, empty_outbox, giving_aspect, giving_move, known_point_after, with_route, Need, Row, Table, was_authorised, Phase}
+use Rattle.simulator_recovery.proofs.Words.Interlockings.{LiesInClosed, ClientState, is_available, is_outside, ClientSoFar, begun, commanding, fallen, message_of, posting, stage_after_command, Stage, IsAvailable, IsClear, IsHeldWithAuthority, IsRouteOf, MoveDue, authorised, count, freed_by_cancel, is_move_due, is_proceed_due, is_waiting, moved, moving, moving_one, proceeding, ruled, IxlState, KnownDetectorState, KnownPointState, RouteState, changed, Input, all_clocked, given, stepped, ticked, watching, StepSoFar, all_below, along, begun_with, empty_outbox, giving_aspect, giving_move, known_point_after, over, with_route, Need, Row, Table, was_authorised, Phase}
 use Rattle.simulator_recovery.proofs.Words.Stations.{Places, Site, Beginning, new_ixl, new_route_of, interlocking_stepped, key_of, WorldState, IsReached}
 use Rattle.simulator_recovery.proofs.Words.Recovery.{MoveLaw}
 use Rattle.std.proofs.Common.{All}
 use Rattle.simulator_spec.specs.ixl_client.declared.command.Command.{Command}
-use Rattle.simulator_recovery.proofs.Lemmas.Ground.DueShapes.{along_keeps, at_one, each_over, no_route, one_else, one_keeps, over_keeps, route_keeps, where_keeps, found_in, seen_in}
+use Rattle.simulator_recovery.proofs.Lemmas.Ground.DueShapes.{along_keeps, at_one, each_over, no_route, one_else, one_keeps, over_keeps, route_keeps, where_keeps}
 use Rattle.simulator_recovery.proofs.Lemmas.RoutesComing.DueKnown.{BringsNothing, PointStands, PointWas, available_before, available_inside, clear_before, known_still, ticks_bring_nothing}
 use Rattle.simulator_recovery.proofs.Lemmas.Ground.IxlAlways.{always_whole}
 use Rattle.simulator_recovery.proofs.Lemmas.Ground.IxlClients.{changed_at, mapped_at, point_client}
@@ -269,7 +269,7 @@ step_none law site table input world number row need there within one route is d
     begins = begun_with world.interlocking.ixl empty_outbox
 
     seen : StepSoFar
-    seen = seen_in now table (given now table (key_of site) input (found_in now begins))
+    seen = over (watching table) (count table) (given now table (key_of site) input (record begins { ixl = all_clocked now begins.ixl }))
 
     brings : BringsNothing (ruled now table seen).ixl (ticked now input (ruled now table seen)).ixl
     brings = ticks_bring_nothing now input (ruled now table seen)

@@ -2,11 +2,11 @@
 use Rattle.simulator_recovery.proofs.Words.Basics.{◌≡◌, ◌≢◌, ℕ, suc, ◌<◌, ◌==◌, Bool, true, false, List, Option, Some, None, slice_get, refl, sym, ap, subst, ◌∙◌, arith, nat_tests, none-some, same_Some}
 use Rattle.simulator_recovery.proofs.Words.Links.{reading_of}
 use Rattle.simulator_recovery.proofs.Words.Controllers.{Aspect}
-use Rattle.simulator_recovery.proofs.Words.Interlockings.{AllClear, AllKnown, IsRouteOf, ProceedDue, authorised, count, ended, is_proceed_due, moved, proceeding, ruled, IxlState, KnownDetectorState, KnownPointState, RouteState, Input, given, stepped, ticked, StepSoFar, begun_with, empty_outbox, giving_aspect, with_route, Row, Table, is_set}
+use Rattle.simulator_recovery.proofs.Words.Interlockings.{AllClear, AllKnown, IsRouteOf, ProceedDue, authorised, count, ended, is_proceed_due, moved, proceeding, ruled, IxlState, KnownDetectorState, KnownPointState, RouteState, Input, all_clocked, given, stepped, ticked, watching, StepSoFar, begun_with, empty_outbox, giving_aspect, over, with_route, Row, Table, is_set}
 use Rattle.simulator_recovery.proofs.Words.Stations.{Site, Beginning, new_ixl, new_route_of, interlocking_stepped, key_of, WorldState, IsReached}
 use Rattle.simulator_recovery.proofs.Words.Recovery.{ClientStandsAt, EachClient, ProceedLaw}
 use Rattle.simulator_recovery.proofs.Lemmas.Lamps.ConfirmedStops.{new_stands, stepped_stands}
-use Rattle.simulator_recovery.proofs.Lemmas.Ground.DueShapes.{each_over, no_route, one_keeps, route_keeps, where_keeps, found_in, seen_in}
+use Rattle.simulator_recovery.proofs.Lemmas.Ground.DueShapes.{each_over, no_route, one_keeps, route_keeps, where_keeps}
 use Rattle.simulator_recovery.proofs.Lemmas.RoutesComing.DueKnown.{BringsNothing, all_clear_before, all_known_before, clients_stepped, ready_before, stop_before, ticks_bring_nothing}
 use Rattle.simulator_recovery.proofs.Lemmas.Ground.IxlAlways.{always_whole}
 use Rattle.simulator_recovery.proofs.Lemmas.Ground.IxlClients.{mapped_at}
@@ -144,7 +144,7 @@ step_none law site table input world is reading number row route is_route due =
     begins = begun_with world.interlocking.ixl empty_outbox
 
     seen : StepSoFar
-    seen = seen_in now table (given now table (key_of site) input (found_in now begins))
+    seen = over (watching table) (count table) (given now table (key_of site) input (record begins { ixl = all_clocked now begins.ixl }))
 
     stand : StopsStand table (ended now table seen).ixl.routes (ended now table seen).ixl.known_signals
     stand = both_rules now table AnyCommand (StopsStand table) (stand_keep now table) seen (watched_held now table AnyCommand (StopsStand table) (stand_keep now table) (key_of site) input begins (λ command e. tt) is.stand)

@@ -1,11 +1,11 @@
 -- No stop waits that is due, where the links that the route needs are ready.
 use Rattle.simulator_recovery.proofs.Words.Basics.{◌≡◌, ◌≢◌, ◌⊎◌, inl, inr, ℕ, suc, ◌<◌, ◌==◌, ◌&&◌, Bool, true, false, if◌then◌else◌, List, length, Option, Some, None, slice_get, refl, sym, ap, subst, ◌∙◌, arith, Contains, false≢true, nat_tests, All-contains, Contains-get_or, none-some, same_Some}
 use Rattle.simulator_recovery.proofs.Words.Links.{reading_of}
-use Rattle.simulator_recovery.proofs.Words.Interlockings.{IsHeldUntil, IsTableOf, as_route, is_ready, AllClear, AllKnown, IsClear, IsHeldWithAuthority, IsRouteOf, IsSignalReady, Known, StopDue, authorised, come_to, count, ended, ending_authority, freed, freed_by_cancel, freed_by_passage, freeing_by_cancel, freeing_by_passage, freeing_next, frees_cancelled, frees_next, is_move_due, is_proceed_due, is_stop_due, is_withdrawn, moved, moving, moving_one, one_freed, proceeding, ruled, stopped, withdrawing, withdrawn, IxlState, KnownDetectorState, KnownPointState, RouteState, Input, given, stepped, ticked, StepSoFar, begun_with, empty_outbox, giving_aspect, with_route, Need, Row, Table, freed_sections, is_at_known_stop, is_set, was_authorised, Phase}
+use Rattle.simulator_recovery.proofs.Words.Interlockings.{IsHeldUntil, IsTableOf, as_route, is_ready, AllClear, AllKnown, IsClear, IsHeldWithAuthority, IsRouteOf, IsSignalReady, Known, StopDue, authorised, come_to, count, ended, ending_authority, freed, freed_by_cancel, freed_by_passage, freeing_by_cancel, freeing_by_passage, freeing_next, frees_cancelled, frees_next, is_move_due, is_proceed_due, is_stop_due, is_withdrawn, moved, moving, moving_one, one_freed, proceeding, ruled, stopped, withdrawing, withdrawn, IxlState, KnownDetectorState, KnownPointState, RouteState, Input, all_clocked, given, stepped, ticked, watching, StepSoFar, begun_with, empty_outbox, giving_aspect, over, with_route, Need, Row, Table, freed_sections, is_at_known_stop, is_set, was_authorised, Phase}
 use Rattle.simulator_recovery.proofs.Words.Stations.{Site, Beginning, new_ixl, new_route_of, interlocking_stepped, key_of, WorldState, IsReached}
 use Rattle.simulator_recovery.proofs.Words.Recovery.{HasLinksReady, IsDetectorReady, IsPointReady, MoveLaw, StopLaw}
 use Rattle.simulator_recovery.proofs.Lemmas.RoutesComing.DueCourse.{stopped_leaves}
-use Rattle.simulator_recovery.proofs.Lemmas.Ground.DueShapes.{each_over, moving_keeps, no_route, no_row, over_keeps, passage_keeps, route_keeps, where_keeps, found_in, seen_in}
+use Rattle.simulator_recovery.proofs.Lemmas.Ground.DueShapes.{each_over, moving_keeps, no_route, no_row, over_keeps, passage_keeps, route_keeps, where_keeps}
 use Rattle.simulator_recovery.proofs.Lemmas.Ground.DueTests.{clear_surely, clear_then, known_surely, known_then}
 use Rattle.simulator_recovery.proofs.Lemmas.RoutesComing.DueKnown.{BringsNothing, clear_still, known_still, ticks_bring_nothing}
 use Rattle.simulator_recovery.proofs.Lemmas.Windows.WaitingItems.{ready_inside}
@@ -272,7 +272,7 @@ module _ (stop : StopLaw) (move : MoveLaw) (site : Site) (table : Table) (holds 
       begins = begun_with world.interlocking.ixl empty_outbox
 
       seen : StepSoFar
-      seen = seen_in now table (given now table (key_of site) input (found_in now begins))
+      seen = over (watching table) (count table) (given now table (key_of site) input (record begins { ixl = all_clocked now begins.ixl }))
 
       brings : BringsNothing (ruled now table seen).ixl (ticked now input (ruled now table seen)).ixl
       brings = ticks_bring_nothing now input (ruled now table seen)

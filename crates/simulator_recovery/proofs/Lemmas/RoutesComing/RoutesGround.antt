@@ -1,14 +1,14 @@
 -- A set route keeps its course over an event, where its links are up and its sections clear; and it has its aspect where all is known that this wants.
 use Rattle.simulator_recovery.proofs.Words.Basics.{◌≡◌, ◌≢◌, ◌⊎◌, inl, inr, ℕ, Bool, true, false, if◌then◌else◌, List, Option, Some, None, slice_get, refl, sym, ap, subst, ◌∙◌, same_Some, ◌<◌, ◌==◌, not, get_or, All, Contains, All-contains, Contains-get_or}
-use Rattle.simulator_recovery.proofs.Words.Links.{settled, reading_of, is_up, reading, Key, LinkState, OutboxState}
+use Rattle.simulator_recovery.proofs.Words.Links.{settled, reading_of, is_up, reading, Key, LinkState}
 use Rattle.simulator_recovery.proofs.Words.Controllers.{Aspect, Side}
-use Rattle.simulator_recovery.proofs.Words.Interlockings.{ClientState, is_outside, is_ready, begun, clocked, commanding, fallen, hearing, ticking, Stage, commanded_by, obeyed, refusal, At, IsSignalReady, authorised, come_to, count, is_move_due, is_proceed_due, is_stop_due, moving_one, proceeding, ruled, stopped, withdrawing, KnownSignalState, changed, Commands, Datagram, Input, Tick, addressed, detector_hearing, detector_ticking, given, known_point_hearing, known_point_ticking, known_signal_hearing, known_signal_ticking, looking, looks, node_hearing, occupied_heard, stepped, ticked, Detector, Node as IxlNode, Point, Signal, StepSoFar, begun_with, detector_after, empty_outbox, giving_aspect, giving_move, known_signal_after, noted, with_detector, with_one, with_route, Need, Row, Table, is_signal_ready, Command, Refusal, Phase, IsTableOf, AllClear, AllKnown, IsHeldAt, Known, moved, IxlState, KnownPointState, RouteState, freed_sections, is_set}
+use Rattle.simulator_recovery.proofs.Words.Interlockings.{ClientState, is_outside, is_ready, begun, clocked, commanding, fallen, hearing, ticking, Stage, commanded_by, obeyed, refusal, At, IsSignalReady, authorised, come_to, count, is_move_due, is_proceed_due, is_stop_due, moving_one, proceeding, ruled, stopped, withdrawing, KnownSignalState, changed, Commands, Datagram, Input, Tick, addressed, all_clocked, clocked_known_signal, detector_hearing, detector_ticking, given, known_point_hearing, known_point_ticking, known_signal_hearing, known_signal_ticking, looking, looks, node_hearing, occupied_heard, stepped, ticked, watching, Detector, Node as IxlNode, Point, Signal, StepSoFar, begun_with, detector_after, empty_outbox, giving_aspect, giving_move, known_signal_after, noted, with_detector, with_one, with_route, Need, Row, Table, is_signal_ready, Command, Refusal, Phase, IsTableOf, AllClear, AllKnown, IsHeldAt, Known, moved, IxlState, KnownPointState, RouteState, over, freed_sections, is_set}
 use Rattle.simulator_recovery.proofs.Words.Stations.{Site, interlocking_stepped, key_of, WorldState, Event, happens, IsReached}
-use Rattle.simulator_recovery.proofs.Words.Recovery.{IsSignalUp, ClientStandsAt, EachClient, HasAspect, HasPointsUp, IsClearFor, IsInside, IsUpheld, KeepsSetting, Waits, AreLinksUp, IsOnCourse, LawsBelow, ClientStandsByCounts}
+use Rattle.simulator_recovery.proofs.Words.Recovery.{IsSignalUp, ClientStandsAt, EachClient, HasAspect, HasPointsUp, IsClearFor, IsInside, IsUpheld, KeepsSetting, Waits, AreLinksUp, IsOnCourse, LawsBelow}
 use Rattle.simulator_spec.specs.ixl_client.declared.command.Command.{Command as ClientCommand}
-use Rattle.simulator_recovery.proofs.Lemmas.Ground.DueShapes.{along_keeps, looking_turns, one_keeps, over_keeps, route_keeps, ticked_keeps, turned_keeps, where_keeps, found_in, seen_in, seen_turns}
+use Rattle.simulator_recovery.proofs.Lemmas.Ground.DueShapes.{along_keeps, looking_turns, one_keeps, over_keeps, route_keeps, ticked_keeps, turned_keeps, watching_turns, where_keeps}
 use Rattle.simulator_recovery.proofs.Lemmas.RoutesComing.DueKnown.{inside_ticks, clients_stand, clients_stepped, known_still, ticks_bring_nothing}
-use Rattle.simulator_recovery.proofs.Lemmas.Ground.IxlClients.{signal_client}
+use Rattle.simulator_recovery.proofs.Lemmas.Ground.IxlClients.{mapped_at, signal_client}
 use Rattle.simulator_recovery.proofs.Lemmas.Ground.IxlSoFar.{set_at, test_of}
 use Rattle.simulator_recovery.proofs.Lemmas.RoutesComing.NothingDueMoves.{move_leaves}
 use Rattle.simulator_recovery.proofs.Lemmas.Ground.SignalParts.{hears, is_ready_there}
@@ -21,13 +21,10 @@ use Rattle.simulator_recovery.proofs.Lemmas.RoutesComing.DueStops.{known_proceed
 use Rattle.simulator_recovery.proofs.Lemmas.Ground.DueTests.{known_then}
 use Rattle.simulator_recovery.proofs.Lemmas.RoutesComing.DueCourse.{LeavesSetting, at_changed, leaves_of, not_anew, seen_held, until_moved, waits_held, waits_keep}
 use Rattle.simulator_recovery.proofs.Lemmas.Ground.LinkCounts.{settled_open}
-use Rattle.simulator_recovery.proofs.Lemmas.Talk.ClientLinks.{up_open, clocked_stands}
+use Rattle.simulator_recovery.proofs.Lemmas.Talk.ClientLinks.{up_open}
 use Rattle.simulator_recovery.proofs.Lemmas.RoutesComing.NothingDueProceeds.{AspectLeaves, aspect_leaves}
 use Rattle.simulator_recovery.proofs.Lemmas.RoutesComing.NothingDueStops.{holds_each}
 use Rattle.simulator_recovery.proofs.Lemmas.Ground.MovedAtOnce.{moved_keeps}
-use Rattle.simulator_recovery.proofs.Lemmas.Ground.FoundIxl.{found_signal, signal_at, signal_found}
-use Rattle.simulator_recovery.proofs.Lemmas.Ground.FoundClients.{by_closing}
-use Rattle.simulator_recovery.proofs.Lemmas.Ground.GoneClients.{IsGone, gone_outside, hears_gone, shut_gone}
 
 -- ---- a signal that is ready is ready after an event, too, where its link is up
 
@@ -50,20 +47,15 @@ after_keeps aspect number indicated client so = subst (λ (c : ClientState). is_
 
 -- ---- a step
 
-module _ (site : Site) (now : ℕ) (table : Table) (signal : ℕ) where
+module _ (now : ℕ) (table : Table) (signal : ℕ) where
   abbrev Holds : StepSoFar → Type 0
   Holds part = (known : KnownSignalState) → slice_get part.ixl.known_signals signal ≡ Some known → KeepsReady known
 
   abbrev HoldsNow : StepSoFar → Type 0
-  HoldsNow part = (known : KnownSignalState) → slice_get part.ixl.known_signals signal ≡ Some known → (is_ready known.client.stage ≡ true) ⊎ IsGone now known.client
-
-  -- it is ready, or its link isn't caught up any more, and was closed
-  keeps_now : (client : ClientState) → (is_ready client.stage ≡ true) ⊎ IsGone now client → is_outside client.stage ≡ false → is_ready client.stage ≡ true
-  keeps_now client (inl ready) inside = ready
-  keeps_now client (inr gone) inside = absurd (gone_outside now client gone inside)
+  HoldsNow part = (known : KnownSignalState) → slice_get part.ixl.known_signals signal ≡ Some known → is_ready known.client.stage ≡ true
 
   now_holds : (part : StepSoFar) → HoldsNow part → Holds part
-  now_holds part is known e = keeps_now known.client (is known e)
+  now_holds part is known e inside = is known e
 
   set_holds : (place : ℕ) (new : KnownSignalState) (part : StepSoFar) → (place ≡ signal → KeepsReady new) → Holds part → (known : KnownSignalState) → slice_get (changed (λ old. new) place part.ixl.known_signals) signal ≡ Some known → KeepsReady known
   set_holds place new part so is known e = choose (set_at place new part.ixl.known_signals signal known e)
@@ -74,31 +66,23 @@ module _ (site : Site) (now : ℕ) (table : Table) (signal : ℕ) where
 
   -- ---- the clock
 
-  one_found : (was : KnownSignalState) → ClientStandsByCounts was.client → is_ready was.client.stage ≡ true → is_up (settled now was.client.link).phase ≡ true → (is_ready (found_signal now was).client.stage ≡ true) ⊎ IsGone now (found_signal now was).client
-  one_found was stands ready up = subst (λ (c : ClientState). (is_ready c.stage ≡ true) ⊎ IsGone now c) (sym (signal_found now was))
-      (by_closing (λ (c : ClientState). (is_ready c.stage ≡ true) ⊎ IsGone now c) now (clocked now was.client)
-      (λ behind. inr (shut_gone now (clocked now was.client) (clocked_stands now was.client stands) behind)) (λ calm. inl (ap is_ready (clocked_up now was.client up) ∙ ready)))
-
-  found_holds : (part : StepSoFar) → EachClient (ClientStandsAt site) part.ixl → IsSignalReady part.ixl signal → (At part.ixl.known_signals signal (λ known. is_up (settled now known.client.link).phase ≡ true)) → HoldsNow (found_in now part)
-  found_holds part stand is up known e =
-      let was = signal_at now part signal known e
+  clocked_holds : (part : StepSoFar) → IsSignalReady part.ixl signal → (At part.ixl.known_signals signal (λ known. is_up (settled now known.client.link).phase ≡ true)) → HoldsNow (record part { ixl = all_clocked now part.ixl })
+  unfolding all_clocked
+  clocked_holds part is up known e =
+      let was = mapped_at (clocked_known_signal now) part.ixl.known_signals signal known e
       in let same = same_Some was.0 is.0 (sym was.1 ∙ is.1)
       in let also = same_Some was.0 up.0 (sym was.1 ∙ up.1)
-      in subst (λ (k : KnownSignalState). (is_ready k.client.stage ≡ true) ⊎ IsGone now k.client) (sym was.2)
-      (one_found was.0 (stand.signals signal was.0 was.1).stands (ap (λ (k : KnownSignalState). is_ready k.client.stage) same ∙ is.2) (ap (λ (k : KnownSignalState). is_up (settled now k.client.link).phase) also ∙ up.2))
+      in ap (λ (k : KnownSignalState). is_ready k.client.stage) was.2
+      ∙ (ap (λ (c : ClientState). is_ready c.stage) (signal_client was.0.aspect was.0.number was.0.indicated (clocked now was.0.client))
+      ∙ (ap is_ready (clocked_up now was.0.client (ap (λ (k : KnownSignalState). is_up (settled now k.client.link).phase) also ∙ up.2)) ∙ (ap (λ (k : KnownSignalState). is_ready k.client.stage) same ∙ is.2)))
 
   -- ---- what is heard
-
-  hears_on : (bytes : List ℕ) (client : ClientState) (outbox : OutboxState) → (is_ready client.stage ≡ true) ⊎ IsGone now client
-      → is_outside (hearing now bytes (begun client outbox)).client.stage ≡ false → is_ready (hearing now bytes (begun client outbox)).client.stage ≡ true
-  hears_on bytes client outbox (inl ready) = goes_on_stays now client (hearing now bytes (begun client outbox)).client (hears bytes outbox refl) ready
-  hears_on bytes client outbox (inr gone) = keeps_now (hearing now bytes (begun client outbox)).client (inr (hears_gone now bytes (begun client outbox) gone))
 
   hearing_holds : (bytes : List ℕ) (node : IxlNode) (part : StepSoFar) → HoldsNow part → Holds (node_hearing now table bytes node part)
   unfolding node_hearing known_signal_hearing known_point_hearing detector_hearing
   hearing_holds bytes (Signal place) part is = one_keeps Holds (slice_get part.ixl.known_signals place) _ part (λ known e. set_holds place _ part (λ same.
       after_keeps known.aspect known.number _ (hearing now bytes (begun known.client part.outbox)).client
-      (hears_on bytes known.client part.outbox (is known (ap (slice_get part.ixl.known_signals) (sym same) ∙ e)))) (now_holds part is)) (now_holds part is)
+      (goes_on_stays now known.client (hearing now bytes (begun known.client part.outbox)).client (hears bytes part.outbox refl) (is known (ap (slice_get part.ixl.known_signals) (sym same) ∙ e)))) (now_holds part is)) (now_holds part is)
   hearing_holds bytes (Point place) part is = one_keeps Holds (slice_get part.ixl.known_points place) _ part (λ known e. now_holds part is) (now_holds part is)
   hearing_holds bytes (Detector place) part is = one_keeps Holds (slice_get table.detectors place) _ part (λ sections f. one_keeps Holds (slice_get part.ixl.detectors place) _ part (λ known e.
       let done = hearing now bytes (begun known.client part.outbox)
@@ -186,15 +170,15 @@ module _ (site : Site) (now : ℕ) (table : Table) (signal : ℕ) where
   ticked_holds : (input : Input) (part : StepSoFar) → Holds part → Holds (ticked now input part)
   ticked_holds = ticked_keeps Holds now signal_ticked point_ticked detector_ticked
 
-  pub step_part : (key : Key) (input : Input) (part : StepSoFar) → EachClient (ClientStandsAt site) part.ixl → IsSignalReady part.ixl signal → (At part.ixl.known_signals signal (λ known. is_up (settled now known.client.link).phase ≡ true)) → Holds (stepped now table key input part)
+  pub step_part : (key : Key) (input : Input) (part : StepSoFar) → IsSignalReady part.ixl signal → (At part.ixl.known_signals signal (λ known. is_up (settled now known.client.link).phase ≡ true)) → Holds (stepped now table key input part)
   unfolding stepped
-  step_part key input part stand is up = ticked_holds input _ (rules_hold _ (seen_turns Holds now table (λ number change part is. is) _ (given_holds key input (found_in now part) (found_holds part stand is up))))
+  step_part key input part is up = ticked_holds input _ (rules_hold _ (over_keeps Holds (watching table) (watching_turns Holds now table (λ number change part is. is)) (count table) _
+      (given_holds key input (record part { ixl = all_clocked now part.ixl }) (clocked_holds part is up))))
 
-pub step_ready : (site : Site) (table : Table) (input : Input) (world : WorldState) (signal : ℕ) → IsReached site table world → IsSignalReady world.interlocking.ixl signal → IsSignalUp signal world
+pub step_ready : (site : Site) (table : Table) (input : Input) (world : WorldState) (signal : ℕ) → IsSignalReady world.interlocking.ixl signal → IsSignalUp signal world
     → (known : KnownSignalState) → slice_get (interlocking_stepped site table input world).interlocking.ixl.known_signals signal ≡ Some known → KeepsReady known
 unfolding interlocking_stepped
-step_ready site table input world signal reached is up =
-    step_part site (reading_of world.interlocking.clock) table signal (key_of site) input (begun_with world.interlocking.ixl empty_outbox) (clients_stand site table world reached) is up
+step_ready site table input world signal is up = step_part (reading_of world.interlocking.clock) table signal (key_of site) input (begun_with world.interlocking.ixl empty_outbox) is up
 
 -- ---- a set route keeps its course over an event, where its links are up and its sections clear; and it has its aspect where all is known that this wants
 
@@ -268,7 +252,7 @@ step_waits site table k row row_there input world leaves is = by_course (over_ke
     begins = begun_with world.interlocking.ixl empty_outbox
 
     seen : StepSoFar
-    seen = seen_in now table (given now table (key_of site) input (found_in now begins))
+    seen = over (watching table) (count table) (given now table (key_of site) input (record begins { ixl = all_clocked now begins.ixl }))
 
     still : At (moved now table seen).ixl.routes k Waits
     still = until_moved now table k Waits waits_keep seen (over_keeps (λ (q : StepSoFar). At q.ixl.routes k Waits) (withdrawing now table) (waits_held now table k) (count table) seen (seen_held now table k Waits waits_keep (key_of site) input begins leaves is))
@@ -306,7 +290,7 @@ module _ (laws : LawsBelow) (site : Site) (table : Table) (is_table : IsTableOf 
       where
         kept : (known : KnownSignalState) → slice_get behind.interlocking.ixl.known_signals row.entry ≡ Some known → KeepsReady known
         kept = kept_then site table number world (λ ixl. (known : KnownSignalState) → slice_get ixl.known_signals row.entry ≡ Some known → KeepsReady known)
-            (λ known e inside. ap (λ (k : KnownSignalState). is_ready k.client.stage) (same_Some known is.0 (sym e ∙ is.1)) ∙ is.2) (λ input leaves. step_ready site table input world row.entry reached is up.signal) one keeps
+            (λ known e inside. ap (λ (k : KnownSignalState). is_ready k.client.stage) (same_Some known is.0 (sym e ∙ is.1)) ∙ is.2) (λ input leaves. step_ready site table input world row.entry is up.signal) one keeps
 
     inside_behind : (need : Need) → Contains row.needs need → IsInside behind.interlocking.ixl need.point
     inside_behind need within = let known = behind_up.points need within in (known.0, known.1, settled_inside (reading_of behind.interlocking.clock) known.0.client (behind_stand.points need.point known.0 known.1).stands.outside known.2)

@@ -1,25 +1,23 @@
 -- The cancel of a route that proceeds gives stop to its signal, or this is in no connection that is ready.
-use Rattle.simulator_recovery.proofs.Words.Basics.{◌≡◌, ◌≢◌, ◌⊎◌, inl, inr, ℕ, zero, suc, ◌+◌, ◌^◌, ◌<◌, ◌≤◌, ◌==◌, ◌&&◌, Bool, true, false, if◌then◌else◌, List, Option, Some, None, slice_get, refl, sym, ap, subst, ◌∙◌, arith, ◌||◌, not, false≢true, nat_tests, same_Some, true≢false}
+use Rattle.simulator_recovery.proofs.Words.Basics.{◌≡◌, ◌≢◌, ◌⊎◌, inl, inr, ℕ, zero, suc, ◌+◌, ◌^◌, ◌<◌, ◌≤◌, ◌==◌, ◌&&◌, Bool, true, false, if◌then◌else◌, List, Option, Some, None, slice_get, refl, sym, ap, subst, ◌∙◌, arith, ◌||◌, not, false≢true, nat_tests, same_Some}
 use Rattle.simulator_recovery.proofs.Words.Links.{settled, reading_of, stops_at_greatest, LinkState, is_up}
 use Rattle.simulator_recovery.proofs.Words.Controllers.{Aspect}
-use Rattle.simulator_recovery.proofs.Words.Interlockings.{ClientState, is_outside, is_ready, ClientSoFar, begun, at_stage, clocked, commanding, fallen, message_of, posting, stage_after_command, Stage, commanded_by, obeyed, refusal, come_to, count, is_proceeding, is_stop_due, is_withdrawn, ruled, stopped, withdrawing, withdrawn, IxlState, KnownSignalState, RouteState, changed, Commands, given, stepped, ticked, watching, StepSoFar, at_route, begun_with, empty_outbox, giving_aspect, known_signal_after, over, with_one, with_route, Row, Table, is_approach_clear, is_set, is_signal_ready, Command, Refusal, Phase, moved_at_once, as_found, noting, was_authorised, clear_since_after, all_clear, watched}
+use Rattle.simulator_recovery.proofs.Words.Interlockings.{ClientState, is_outside, is_ready, ClientSoFar, begun, at_stage, clocked, commanding, fallen, message_of, posting, stage_after_command, Stage, commanded_by, obeyed, refusal, come_to, count, is_proceeding, is_stop_due, is_withdrawn, ruled, stopped, withdrawing, withdrawn, IxlState, KnownSignalState, RouteState, changed, Commands, all_clocked, clocked_known_signal, given, stepped, ticked, watching, StepSoFar, at_route, begun_with, empty_outbox, giving_aspect, known_signal_after, over, with_one, with_route, Row, Table, is_approach_clear, is_set, is_signal_ready, Command, Refusal, Phase, moved_at_once}
 use Rattle.simulator_recovery.proofs.Words.Stations.{Site, RouteId, Event, Answer, answered, happens, interlocking_stepped, WorldState}
 use Rattle.simulator_recovery.proofs.Words.Recovery.{ClientStandsByCounts, HasCounted}
 use Rattle.simulator_spec.specs.ixl_client.declared.command.Command.{Command as ClientCommand}
-use Rattle.simulator_recovery.proofs.Lemmas.Lamps.Cancelled.{accepted_so, stopped_routes}
+use Rattle.simulator_recovery.proofs.Lemmas.Ground.AtLink.{mapped}
+use Rattle.simulator_recovery.proofs.Lemmas.Lamps.Cancelled.{accepted_so, clocked_routes, stopped_routes}
 use Rattle.simulator_recovery.proofs.Lemmas.Talk.ClientLinks.{post_up, up_open}
 use Rattle.simulator_recovery.proofs.Lemmas.Lamps.GivenNoMore.{IsAs, NoCommand, Rests, RestsSo, rests_keep}
-use Rattle.simulator_recovery.proofs.Lemmas.Ground.IxlClients.{signal_is}
+use Rattle.simulator_recovery.proofs.Lemmas.Ground.IxlClients.{signal_client, signal_is}
 use Rattle.simulator_recovery.proofs.Lemmas.Ground.IxlSoFar.{test_of}
 use Rattle.simulator_recovery.proofs.Lemmas.Ground.LinkCounts.{settled_open}
-use Rattle.simulator_recovery.proofs.Lemmas.Ground.SignalParts.{given_command, behind_withdrawal, over_held, withdrawing_held, looked_held, found_held}
+use Rattle.simulator_recovery.proofs.Lemmas.Ground.SignalParts.{given_command, behind_withdrawal, clocked_held, over_held, watching_held, withdrawing_held}
 use Rattle.simulator_recovery.proofs.Lemmas.Silence.Spent.{within_some}
 use Rattle.simulator_recovery.proofs.Lemmas.Lamps.StopsGiven.{AnyCommand, StopsStand, changed_elsewhere, changed_here, differs, fails, is_equal, proceeding_set, stand_keep, waiting_set}
 use Rattle.simulator_recovery.proofs.Lemmas.Ground.DueTests.{first_true}
 use Rattle.simulator_recovery.proofs.Lemmas.Windows.WaitingItems.{ready_inside}
-use Rattle.simulator_recovery.proofs.Lemmas.Ground.DueShapes.{found_in, seen_in, seen_keeps}
-use Rattle.simulator_recovery.proofs.Lemmas.Ground.FoundIxl.{found_client, found_is, found_routes, found_signal, signal_found, signal_there}
-use Rattle.simulator_recovery.proofs.Lemmas.Ground.FoundClients.{by_closing, shut_so}
 
 -- Something was given to a signal with a number above these, or no aspect in its present connection.
 abbrev pub IsPast : ℕ → KnownSignalState → Type 0
@@ -64,7 +62,7 @@ clocked_counts now client stands inside = by_up (is_up (settled now client.link)
     late : ClientState
     late = record client { link = settled now client.link }
 
-    by_up : (b : Bool) → is_up (settled now client.link).phase ≡ b → is_outside (if b then late else record late { stage = Stage.Outside }).stage ≡ false → CountsSo client.link.given (watched now (if b then late else record late { stage = Stage.Outside }))
+    by_up : (b : Bool) → is_up (settled now client.link).phase ≡ b → is_outside (if b then late else record late { stage = Stage.Outside }).stage ≡ false → CountsSo client.link.given (if b then late else record late { stage = Stage.Outside })
     by_up false e within = absurd (false≢true (sym within))
     by_up true e within =
         let so = settled_open now client.link (up_open (settled now client.link).phase e)
@@ -75,11 +73,6 @@ clocked_counts now client stands inside = by_up (is_up (settled now client.link)
           counts = subst (HasCounted has.taken has.given) (sym so.0) (record { taken_is = has.counts.taken_is; given_is = has.counts.given_is; waiting = has.counts.waiting });
           are = ap (λ (l : LinkState). l.given) so.0;
         }
-
--- and so does the close of one that isn't caught up any more, for then it is outside
-pub found_counts : (now : ℕ) (client : ClientState) → ClientStandsByCounts client → is_outside (found_client now client).stage ≡ false → CountsSo client.link.given (found_client now client)
-found_counts now client stands = by_closing (λ (c : ClientState). is_outside c.stage ≡ false → CountsSo client.link.given c) now (clocked now client)
-    (λ behind inside. absurd (true≢false (sym (shut_so now (clocked now client)).outside ∙ inside))) (λ calm inside. clocked_counts now client stands inside)
 
 -- a signal is given its number
 past_after : (items : ℕ) (aspect : Option Aspect) (number : ℕ) (indicated : Option Aspect) (client : ClientState) → (is_outside client.stage ≡ false → items < number) → IsPast items (known_signal_after aspect number indicated client)
@@ -126,26 +119,26 @@ module _ (now : ℕ) (table : Table) (number : ℕ) (row : Row) (row_there : sli
   unfolding watching at_route
   watches k part g = by_row (slice_get table.rows k)
     where
-      watched_so : Row → RouteState → RouteState
-      watched_so r old = record old { approached = old.approached || not (is_approach_clear table part.ixl r) }
+      watched : Row → RouteState → RouteState
+      watched r old = record old { approached = old.approached || not (is_approach_clear table part.ixl r) }
 
-      route_then : (r : Row) (b : Bool) → (k == number) ≡ b → Goes (with_route k (watched_so r) part)
+      route_then : (r : Row) (b : Bool) → (k == number) ≡ b → Goes (with_route k (watched r) part)
       route_then r true e = record {
-        route = watched_so r g.route;
-        there = ap (slice_get (changed (watched_so r) k part.ixl.routes)) (sym (is_equal k number e)) ∙ changed_here (watched_so r) k part.ixl.routes g.route (ap (slice_get part.ixl.routes) (is_equal k number e) ∙ g.there);
+        route = watched r g.route;
+        there = ap (slice_get (changed (watched r) k part.ixl.routes)) (sym (is_equal k number e)) ∙ changed_here (watched r) k part.ixl.routes g.route (ap (slice_get part.ixl.routes) (is_equal k number e) ∙ g.there);
         proceeds = g.proceeds;
         cancelled = g.cancelled;
         signal = g.signal;
       }
       route_then r false e = record {
         route = g.route;
-        there = changed_elsewhere (watched_so r) k number part.ixl.routes (λ same. differs k number e (sym same)) ∙ g.there;
+        there = changed_elsewhere (watched r) k number part.ixl.routes (λ same. differs k number e (sym same)) ∙ g.there;
         proceeds = g.proceeds;
         cancelled = g.cancelled;
         signal = g.signal;
       }
 
-      by_test : (r : Row) (b : Bool) → Goes (if b then with_route k (watched_so r) part else part)
+      by_test : (r : Row) (b : Bool) → Goes (if b then with_route k (watched r) part else part)
       by_test r true = route_then r (k == number) refl
       by_test r false = g
 
@@ -157,43 +150,9 @@ module _ (now : ℕ) (table : Table) (number : ℕ) (row : Row) (row_there : sli
       by_row None = g
       by_row (Some r) = by_route r (slice_get part.ixl.routes k)
 
-  notes : (k : ℕ) (part : StepSoFar) → Goes part → Goes (noting now table k part)
-  unfolding noting at_route
-  notes k part g = by_row (slice_get table.rows k)
-    where
-      noted_so : Row → RouteState → RouteState
-      noted_so r old = record old { clear_since = clear_since_after now (all_clear table part.ixl r.sections) old.clear_since }
-
-      route_then : (r : Row) (b : Bool) → (k == number) ≡ b → Goes (with_route k (noted_so r) part)
-      route_then r true e = record {
-        route = noted_so r g.route;
-        there = ap (slice_get (changed (noted_so r) k part.ixl.routes)) (sym (is_equal k number e)) ∙ changed_here (noted_so r) k part.ixl.routes g.route (ap (slice_get part.ixl.routes) (is_equal k number e) ∙ g.there);
-        proceeds = g.proceeds;
-        cancelled = g.cancelled;
-        signal = g.signal;
-      }
-      route_then r false e = record {
-        route = g.route;
-        there = changed_elsewhere (noted_so r) k number part.ixl.routes (λ same. differs k number e (sym same)) ∙ g.there;
-        proceeds = g.proceeds;
-        cancelled = g.cancelled;
-        signal = g.signal;
-      }
-
-      by_test : (r : Row) (b : Bool) → Goes (if b then with_route k (noted_so r) part else part)
-      by_test r true = route_then r (k == number) refl
-      by_test r false = g
-
-      by_route : (r : Row) (found : Option RouteState) → Goes (with_one found (λ route p. if table.is_strict && was_authorised route.phase then with_route k (λ old. record old { clear_since = clear_since_after now (all_clear table p.ixl r.sections) old.clear_since }) p else p) part)
-      by_route r None = g
-      by_route r (Some route) = by_test r (table.is_strict && was_authorised route.phase)
-
-      by_row : (found : Option Row) → Goes (with_one found (λ r q. with_one (slice_get q.ixl.routes k) (λ route p. if table.is_strict && was_authorised route.phase then with_route k (λ old. record old { clear_since = clear_since_after now (all_clear table p.ixl r.sections) old.clear_since }) p else p) q) part)
-      by_row None = g
-      by_row (Some r) = by_route r (slice_get part.ixl.routes k)
-
-  all_watch : (part : StepSoFar) → Goes part → Goes (seen_in now table part)
-  all_watch = seen_keeps Goes now table watches notes
+  all_watch : (many : ℕ) (part : StepSoFar) → Goes part → Goes (over (watching table) many part)
+  all_watch zero part g = g
+  all_watch (suc many) part g = watches many (over (watching table) many part) (all_watch many part g)
 
   -- another route leaves it so
   leaves_so : (k : ℕ) (part : StepSoFar) → k ≢ number → Stands part → Goes part → Goes (withdrawing now table k part)
@@ -351,6 +310,10 @@ module _ (now : ℕ) (table : Table) (number : ℕ) (row : Row) (row_there : sli
 
 -- ---- the step
 
+pub clocked_there : (now : ℕ) (ixl : IxlState) (signal : ℕ) (known : KnownSignalState) → slice_get ixl.known_signals signal ≡ Some known → slice_get (all_clocked now ixl).known_signals signal ≡ Some (clocked_known_signal now known)
+unfolding all_clocked
+clocked_there now ixl signal known there = mapped (clocked_known_signal now) ixl.known_signals signal known there
+
 -- what a cancel does to the route and to the signals
 pub cancelled_at : (now : ℕ) (ixl : IxlState) (route : RouteId) (one : RouteState) → slice_get ixl.routes route.0 ≡ Some one → slice_get (obeyed now (Command.Cancel route) ixl).routes route.0 ≡ Some (record one { cancelled = true })
 unfolding obeyed
@@ -361,55 +324,53 @@ unfolding obeyed
 cancelled_signals now ixl route = refl
 
 cancel_past : (site : Site) (table : Table) (world : WorldState) (route : RouteId) (row : Row) (one : RouteState) (known : KnownSignalState) → slice_get table.rows route.0 ≡ Some row → StopsStand table world.interlocking.ixl.routes world.interlocking.ixl.known_signals
-    → refusal (reading_of world.interlocking.clock) table (Command.Cancel route) (as_found (reading_of world.interlocking.clock) world.interlocking.ixl) ≡ None → slice_get world.interlocking.ixl.routes route.0 ≡ Some one → is_proceeding one.phase ≡ true
+    → refusal (reading_of world.interlocking.clock) table (Command.Cancel route) (all_clocked (reading_of world.interlocking.clock) world.interlocking.ixl) ≡ None → slice_get world.interlocking.ixl.routes route.0 ≡ Some one → is_proceeding one.phase ≡ true
     → slice_get world.interlocking.ixl.known_signals row.entry ≡ Some known → ClientStandsByCounts known.client → known.client.link.given < 2 ^ 31
     → (new : KnownSignalState) → slice_get (interlocking_stepped site table (Commands (Command.Cancel route)) world).interlocking.ixl.known_signals row.entry ≡ Some new → IsPast known.client.link.given new
 unfolding interlocking_stepped stepped ticked given moved_at_once
 cancel_past site table world route row one known row_there stand none there proceeds signal counts small =
-    by_turn (rule_past now table route.0 row row_there true known.client.link.given small late counts_so seen stand_seen (all_watch now table route.0 row row_there true known.client.link.given small late counts_so heard goes_heard))
+    by_turn (rule_past now table route.0 row row_there true known.client.link.given small late counts_so watched stand_watched (all_watch now table route.0 row row_there true known.client.link.given small late counts_so (count table) heard goes_heard))
   where
     now : ℕ
     now = reading_of world.interlocking.clock
 
     late : KnownSignalState
-    late = found_signal now known
+    late = clocked_known_signal now known
 
-    begins : StepSoFar
-    begins = begun_with world.interlocking.ixl empty_outbox
-
-    finds : StepSoFar
-    finds = found_in now begins
+    clocked_part : StepSoFar
+    clocked_part = record (begun_with world.interlocking.ixl empty_outbox) { ixl = all_clocked now world.interlocking.ixl }
 
     heard_by : Option Refusal → StepSoFar
-    heard_by cause = moved_at_once now cause (Command.Cancel route) (record finds { ixl = commanded_by now cause (Command.Cancel route) finds.ixl })
+    heard_by cause = moved_at_once now cause (Command.Cancel route) (record clocked_part { ixl = commanded_by now cause (Command.Cancel route) clocked_part.ixl })
 
     heard : StepSoFar
-    heard = heard_by (refusal now table (Command.Cancel route) finds.ixl)
+    heard = heard_by (refusal now table (Command.Cancel route) clocked_part.ixl)
 
-    seen : StepSoFar
-    seen = seen_in now table heard
+    watched : StepSoFar
+    watched = over (watching table) (count table) heard
 
-    stand_seen : StopsStand table seen.ixl.routes seen.ixl.known_signals
-    stand_seen = looked_held now table AnyCommand (StopsStand table) (stand_keep now table) heard
-        (given_command now table AnyCommand (StopsStand table) (stand_keep now table) (Command.Cancel route) finds tt (found_held now table AnyCommand (StopsStand table) (stand_keep now table) begins stand))
+    stand_watched : StopsStand table watched.ixl.routes watched.ixl.known_signals
+    stand_watched = over_held now table (StopsStand table) (stand_keep now table).rules (watching table) (watching_held now table AnyCommand (StopsStand table) (stand_keep now table)) (count table) heard
+        (given_command now table AnyCommand (StopsStand table) (stand_keep now table) (Command.Cancel route) clocked_part tt
+        (clocked_held now table AnyCommand (StopsStand table) (stand_keep now table) (begun_with world.interlocking.ixl empty_outbox) stand))
 
     counts_so : is_ready late.client.stage ≡ true → CountsSo known.client.link.given late.client
     counts_so ready =
-        let same = signal_found now known
-        in subst (CountsSo known.client.link.given) (sym same) (found_counts now known.client counts (ap (λ (c : ClientState). is_outside c.stage) (sym same) ∙ ready_inside late.client.stage ready))
+        let same = signal_client known.aspect known.number known.indicated (clocked now known.client)
+        in subst (CountsSo known.client.link.given) (sym same) (clocked_counts now known.client counts (ap (λ (c : ClientState). is_outside c.stage) (sym same) ∙ ready_inside late.client.stage ready))
 
     goes_heard : Goes now table route.0 row row_there true known.client.link.given small late counts_so heard
-    goes_heard = subst (λ (cause : Option Refusal). Goes now table route.0 row row_there true known.client.link.given small late counts_so (heard_by cause)) (sym (ap (refusal now table (Command.Cancel route)) (found_is now begins) ∙ none)) (record {
+    goes_heard = subst (λ (cause : Option Refusal). Goes now table route.0 row row_there true known.client.link.given small late counts_so (heard_by cause)) (sym none) (record {
       route = record one { cancelled = true };
-      there = cancelled_at now finds.ixl route one (ap (λ (routes : List RouteState). slice_get routes route.0) (found_routes now begins) ∙ there);
+      there = cancelled_at now clocked_part.ixl route one (ap (λ (routes : List RouteState). slice_get routes route.0) (clocked_routes now world.interlocking.ixl) ∙ there);
       proceeds = proceeds;
       cancelled = refl;
-      signal = ap (λ (signals : List KnownSignalState). slice_get signals row.entry) (cancelled_signals now finds.ixl route) ∙ signal_there now begins row.entry known signal;
+      signal = ap (λ (signals : List KnownSignalState). slice_get signals row.entry) (cancelled_signals now clocked_part.ixl route) ∙ clocked_there now world.interlocking.ixl row.entry known signal;
     })
 
-    by_turn : Turned now table route.0 row row_there true known.client.link.given small late counts_so (withdrawn now table seen)
-        → (new : KnownSignalState) → slice_get (ruled now table seen).ixl.known_signals row.entry ≡ Some new → IsPast known.client.link.given new
-    by_turn (inl p) = past_ruled now table route.0 row row_there true known.client.link.given small late counts_so seen p
+    by_turn : Turned now table route.0 row row_there true known.client.link.given small late counts_so (withdrawn now table watched)
+        → (new : KnownSignalState) → slice_get (ruled now table watched).ixl.known_signals row.entry ≡ Some new → IsPast known.client.link.given new
+    by_turn (inl p) = past_ruled now table route.0 row row_there true known.client.link.given small late counts_so watched p
     by_turn (inr (goes, uncancelled)) = absurd (false≢true (sym uncancelled))
 
 pub cancel_happened : (site : Site) (table : Table) (world : WorldState) (route : RouteId) (row : Row) (one : RouteState) (known : KnownSignalState) → slice_get table.rows route.0 ≡ Some row → StopsStand table world.interlocking.ixl.routes world.interlocking.ixl.known_signals

@@ -1,22 +1,20 @@
 -- Two good rounds after its cancel, or more, a route is free, unless a train came or its approach counts.
-use Rattle.simulator_recovery.proofs.Words.Basics.{◌≡◌, inl, inr, ℕ, suc, ◌≤◌, Bool, true, false, List, [], ◌∷◌, ◌++◌, append_assoc, length, arith, Option, Some, None, slice_get, refl, sym, ap, subst, ◌∙◌, false≢true, same_Some}
+use Rattle.simulator_recovery.proofs.Words.Basics.{◌≡◌, inl, inr, ℕ, suc, ◌≤◌, Bool, true, false, List, [], ◌∷◌, ◌++◌, append_assoc, length, Option, Some, None, slice_get, refl, sym, ap, subst, ◌∙◌, false≢true, same_Some}
 use Rattle.simulator_recovery.proofs.Words.Links.{Each, reading_of}
-use Rattle.simulator_recovery.proofs.Words.Interlockings.{IsTableOf, commanded_by, refusal, AllClear, At, HasFreshReports, is_proceeding, is_waiting, IxlState, RouteState, Commands, given, stepped, ticked, StepSoFar, begun_with, empty_outbox, Row, SitedTable, Table, is_set, Command, Refusal, Phase, moved_at_once, as_found}
+use Rattle.simulator_recovery.proofs.Words.Interlockings.{IsTableOf, commanded_by, refusal, AllClear, At, count, is_proceeding, is_waiting, IxlState, RouteState, Commands, all_clocked, given, stepped, ticked, watching, StepSoFar, begun_with, empty_outbox, over, Row, SitedTable, Table, is_set, Command, Refusal, Phase, moved_at_once}
 use Rattle.simulator_recovery.proofs.Words.Stations.{Site, RouteId, Once, IsStation, Event, Answer, Flowing, round, answered, happens, interlocking_stepped, WorldState, IsReached}
 use Rattle.simulator_recovery.proofs.Words.Recovery.{IsUnseen, authority_rounds, AcceptsCancel, and_cancel, as_cancel_comes, StaysBelowLimit, Proceeds, ready_rounds, HasTime, IsWork, all_tried, good_rounds, IsNotSetAnew, LawsBelow, FreeLaw}
 use Rattle.simulator_recovery.proofs.Lemmas.RoutesGoing.AuthorityCancels.{cancelled_at}
-use Rattle.simulator_recovery.proofs.Lemmas.RoutesGoing.BetweenCancels.{cancel_works, many_cancelled}
+use Rattle.simulator_recovery.proofs.Lemmas.RoutesGoing.BetweenCancels.{many_cancelled}
 use Rattle.simulator_recovery.proofs.Lemmas.RoutesGoing.BetweenSignals.{rests_keeps, route_kept}
-use Rattle.simulator_recovery.proofs.Lemmas.RoutesGoing.RoundsFree.{rounds_free}
-use Rattle.simulator_recovery.proofs.Lemmas.Lamps.Cancelled.{NoCommand, OfRoute, RouteKeeps, accepted_so, none_comes, route_keep}
+use Rattle.simulator_recovery.proofs.Lemmas.Lamps.Cancelled.{NoCommand, OfRoute, RouteKeeps, accepted_so, none_comes, route_keep, clocked_routes}
 use Rattle.simulator_recovery.proofs.Lemmas.Lamps.GivenNoMore.{RestsSo, over_rests}
 use Rattle.simulator_recovery.proofs.Lemmas.Points.MovesAnswered.{rounds_both}
+use Rattle.simulator_recovery.proofs.Lemmas.RoutesComing.NothingDueFrees.{nothing_waits_to_be_freed}
 use Rattle.simulator_recovery.proofs.Lemmas.Rounds.Rounds.{IsAt, rounds_reached}
-use Rattle.simulator_recovery.proofs.Lemmas.Ground.SignalParts.{IsQuiet, behind_ending, both_rules, looked_held}
+use Rattle.simulator_recovery.proofs.Lemmas.Ground.SignalParts.{IsQuiet, behind_ending, both_rules, over_held, watching_held}
 use Rattle.simulator_recovery.proofs.Lemmas.Lamps.StopComes.{accepted_there, cancel_happens, none_behind_cancel}
 use Rattle.simulator_recovery.proofs.Lemmas.Lamps.StopsGiven.{proceeding_set}
-use Rattle.simulator_recovery.proofs.Lemmas.Ground.DueShapes.{found_in, seen_in}
-use Rattle.simulator_recovery.proofs.Lemmas.Ground.FoundIxl.{found_is, found_routes}
 
 -- ---- a cancelled route stays cancelled while it is set
 
@@ -38,7 +36,7 @@ abbrev StaysIn : ℕ → IxlState → Type 0
 StaysIn number ixl = (route : RouteState) → slice_get ixl.routes number ≡ Some route → StaysCancelled route
 
 -- What the parts of a step keep of a route is so after a cancel of it, which leaves it as it was but that it is cancelled.
-cancel_keeps : (F : RouteState → Type 0) → RouteKeeps F → (site : Site) (table : Table) (world : WorldState) (route : RouteId) (one : RouteState) → refusal (reading_of world.interlocking.clock) table (Command.Cancel route) (as_found (reading_of world.interlocking.clock) world.interlocking.ixl) ≡ None
+cancel_keeps : (F : RouteState → Type 0) → RouteKeeps F → (site : Site) (table : Table) (world : WorldState) (route : RouteId) (one : RouteState) → refusal (reading_of world.interlocking.clock) table (Command.Cancel route) (all_clocked (reading_of world.interlocking.clock) world.interlocking.ixl) ≡ None
     → slice_get world.interlocking.ixl.routes route.0 ≡ Some one → F (record one { cancelled = true }) → OfRoute route.0 F (interlocking_stepped site table (Commands (Command.Cancel route)) world).interlocking.ixl.routes []
 unfolding interlocking_stepped stepped ticked given moved_at_once
 cancel_keeps F keeps site table world route one none_so there so =
@@ -48,28 +46,26 @@ cancel_keeps F keeps site table world route one none_so there so =
     now : ℕ
     now = reading_of world.interlocking.clock
 
-    begins : StepSoFar
-    begins = begun_with world.interlocking.ixl empty_outbox
-
-    finds : StepSoFar
-    finds = found_in now begins
+    clocked_part : StepSoFar
+    clocked_part = record (begun_with world.interlocking.ixl empty_outbox) { ixl = all_clocked now world.interlocking.ixl }
 
     heard_by : Option Refusal → StepSoFar
-    heard_by cause = moved_at_once now cause (Command.Cancel route) (record finds { ixl = commanded_by now cause (Command.Cancel route) finds.ixl })
+    heard_by cause = moved_at_once now cause (Command.Cancel route) (record clocked_part { ixl = commanded_by now cause (Command.Cancel route) clocked_part.ixl })
 
     heard : StepSoFar
-    heard = heard_by (refusal now table (Command.Cancel route) finds.ixl)
+    heard = heard_by (refusal now table (Command.Cancel route) clocked_part.ixl)
 
     watched : StepSoFar
-    watched = seen_in now table heard
+    watched = over (watching table) (count table) heard
 
     heard_so : OfRoute route.0 F heard.ixl.routes []
-    heard_so = subst (λ (cause : Option Refusal). OfRoute route.0 F (heard_by cause).ixl.routes []) (sym (ap (refusal now table (Command.Cancel route)) (found_is now begins) ∙ none_so)) (λ later e.
-        let same = same_Some (record one { cancelled = true }) later (sym (cancelled_at now finds.ixl route one (ap (λ (routes : List RouteState). slice_get routes route.0) (found_routes now begins) ∙ there)) ∙ e)
+    heard_so = subst (λ (cause : Option Refusal). OfRoute route.0 F (heard_by cause).ixl.routes []) (sym none_so) (λ later e.
+        let same = same_Some (record one { cancelled = true }) later (sym (cancelled_at now clocked_part.ixl route one (ap (λ (routes : List RouteState). slice_get routes route.0) (clocked_routes now world.interlocking.ixl) ∙ there)) ∙ e)
         in subst F same so)
 
     watched_so : OfRoute route.0 F watched.ixl.routes watched.ixl.known_signals
-    watched_so = looked_held now table NoCommand (OfRoute route.0 F) (route_keep now table NoCommand none_comes route.0 F keeps) heard heard_so
+    watched_so = over_held now table (OfRoute route.0 F) (route_keep now table NoCommand none_comes route.0 F keeps).rules (watching table)
+        (watching_held now table NoCommand (OfRoute route.0 F) (route_keep now table NoCommand none_comes route.0 F keeps)) (count table) heard heard_so
 
 -- so it is where the cancel is accepted
 pub kept_behind_cancel : (F : RouteState → Type 0) → RouteKeeps F → (site : Site) (table : Table) (world : WorldState) (route : RouteId) (one : RouteState) → answered site table (Event.Request (Command.Cancel route)) world ≡ Answer.Accepted
@@ -143,13 +139,10 @@ module _ (frees : FreeLaw) (laws : LawsBelow) (between : List Event) (later_roun
       by_phase (Phase.Ended clock done) e = (clock, done, e)
 
   pub free_behind_cancel : (state : RouteState) → slice_get (good_rounds (between ∷ (later_rounds ++ and_cancel route before ∷ more)) flowing).state.run.interlocking.ixl.routes route.0 ≡ Some state → IsUnseen row state
-      → AllClear flowing.state.sited.table (good_rounds (between ∷ (later_rounds ++ and_cancel route before ∷ more)) flowing).state.run.interlocking.ixl row.sections → state.approached ≡ false
-      → ((clock done : ℕ) → state.phase ≡ Phase.Ended clock done → flowing.state.sited.table.is_strict ≡ true
-      → HasFreshReports (reading_of (good_rounds (between ∷ (later_rounds ++ and_cancel route before ∷ more)) flowing).state.run.interlocking.clock) state clock)
-      → is_set state.phase ≡ false
-  free_behind_cancel state is unseen clear unapproached fresh = by_set (is_set state.phase) refl
+      → AllClear flowing.state.sited.table (good_rounds (between ∷ (later_rounds ++ and_cancel route before ∷ more)) flowing).state.run.interlocking.ixl row.sections → state.approached ≡ false → is_set state.phase ≡ false
+  free_behind_cancel state is unseen clear unapproached = by_set (is_set state.phase) refl
     where
       by_set : (b : Bool) → is_set state.phase ≡ b → is_set state.phase ≡ false
       by_set false e = e
-      by_set true e = let ended = ended_behind_cancel state is e in absurd (rounds_free frees laws (between ∷ (later_rounds ++ and_cancel route before ∷ more)) flowing reached (work, cancel_works later_rounds before route more works before_works more_works)
-          route.0 row state ended.1 ended.2 (there, is) ended.0 ended.3 (inl (record { unseen = unseen; clear = clear; approach = inl unapproached; fresh = fresh ended.1 ended.2 ended.3 })) (omega arith))
+      by_set true e = let ended = ended_behind_cancel state is e in absurd (nothing_waits_to_be_freed frees sited.site sited.table (good_rounds (between ∷ (later_rounds ++ and_cancel route before ∷ more)) flowing).state.run route.0 row state
+          (at (later_rounds ++ and_cancel route before ∷ more)).reached (there, is) (λ reading. (ended.0, inr (ended.1, ended.2, ended.3, inl (record { unseen = unseen; clear = clear; approach = inl unapproached })))))

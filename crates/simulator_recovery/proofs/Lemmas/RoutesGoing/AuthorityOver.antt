@@ -84,7 +84,7 @@ module _ (laws : LawsBelow) (between : List Event) (later_rounds : List (List Ev
       let b = behind_rounds laws sited station once is_table signal there between flowing work start third works_third can_third
       in record {
         behind = b;
-        opens = rounds_open signal third next start.before works_third (rounds_stay laws sited station once is_table signal there third next start.before start.is (subst (λ (l : List (List Event)). StaysBelowLimit sited.site signal l next) (sym third_is) below start.before start.has.are));
+        opens = rounds_open signal third next start.before works_third (rounds_stay laws sited station once is_table signal there third next start.is);
         below = b.below (subst (λ (l : List (List Event)). StaysBelowLimit sited.site signal l next) (sym third_is) below);
         long = omega (arith, long, many_first, many_second, many_third);
       }

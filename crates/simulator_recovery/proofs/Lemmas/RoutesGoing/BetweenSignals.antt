@@ -1,7 +1,7 @@
 -- While a route is withdrawn its signal is given no aspect, whatever requests and occupancies come.
 use Rattle.simulator_recovery.proofs.Words.Basics.{◌≡◌, inl, inr, ℕ, Bool, true, false, List, [], ◌∷◌, ◌++◌, Option, Some, None, slice_get, refl, sym, ap, subst, ◌∙◌, false≢true, none-some, same_Some, ◌≢◌, ◌⊎◌}
 use Rattle.simulator_recovery.proofs.Words.Links.{Each, reading_of}
-use Rattle.simulator_recovery.proofs.Words.Interlockings.{refusal, is_withdrawn, IxlState, RouteState, Input, answer_by, reply, SitedTable, Table, Command, Refusal, Phase, set_anew, come_to, is_proceeding, is_waiting, KnownSignalState, changed, begun_with, empty_outbox, Row, is_set, as_found}
+use Rattle.simulator_recovery.proofs.Words.Interlockings.{refusal, is_withdrawn, IxlState, RouteState, Input, all_clocked, answer_by, reply, SitedTable, Table, Command, Refusal, Phase, set_anew, come_to, is_proceeding, is_waiting, KnownSignalState, changed, begun_with, empty_outbox, Row, is_set}
 use Rattle.simulator_recovery.proofs.Words.Stations.{Site, Event, Answer, Flowing, round, answered, answered_by, happens, interlocking_stepped, WorldState, Played, after, key_of}
 use Rattle.simulator_recovery.proofs.Words.Recovery.{IsWork, all_tried, good_rounds, IsNotSetAnew, NoneSets, SetsNot, LawsBelow, GivesNoMore, IsWithdrawnFrom, NoneProceeds}
 use Rattle.simulator_recovery.proofs.Words.Controllers.{Aspect}
@@ -18,7 +18,7 @@ use Rattle.simulator_recovery.proofs.Lemmas.Lamps.StopsGiven.{StopsStand, procee
 -- ---- what each step of an interlocking keeps that doesn't set a route anew is kept over good rounds, whatever else comes between them
 
 -- a command that isn't refused is accepted
-accepted_so : (site : Site) (table : Table) (command : Command) (world : WorldState) → refusal (reading_of world.interlocking.clock) table command (as_found (reading_of world.interlocking.clock) world.interlocking.ixl) ≡ None
+accepted_so : (site : Site) (table : Table) (command : Command) (world : WorldState) → refusal (reading_of world.interlocking.clock) table command (all_clocked (reading_of world.interlocking.clock) world.interlocking.ixl) ≡ None
     → answered site table (Event.Request command) world ≡ Answer.Accepted
 unfolding answered reply
 accepted_so site table command world none = ap (λ (cause : Option Refusal). answered_by (answer_by cause)) none

@@ -2,7 +2,7 @@
 use Rattle.simulator_recovery.proofs.Words.Basics.{◌≡◌, ◌≢◌, ◌⊎◌, inl, inr, ℕ, suc, ◌+◌, ◌^◌, ◌≤◌, Bool, true, false, nat_le, List, [], Option, Some, None, slice_get, refl, sym, ap, subst, ◌∙◌, arith, leb-false, leb-true, false≢true, same_Some}
 use Rattle.simulator_recovery.proofs.Words.Links.{settled, reading_of, stops_at_greatest, is_up, reading, Key}
 use Rattle.simulator_recovery.proofs.Words.Controllers.{Aspect}
-use Rattle.simulator_recovery.proofs.Words.Interlockings.{ClientState, is_ready, ClientSoFar, begun, commanding, hearing, commanded_by, obeyed, refusal, released_at, set_anew, At, come_to, count, ending_authority, is_stop_due, is_withdrawn, ruled, stopped, withdrawing, withdrawn, IxlState, KnownSignalState, RouteState, changed, Commands, Datagram, Input, Tick, addressed, detector_hearing, given, known_point_hearing, known_signal_hearing, looking, looks, node_hearing, occupied_heard, stepped, ticked, Detector, Node, Point, Signal, StepSoFar, begun_with, detector_after, empty_outbox, giving_aspect, noted, with_detector, with_one, with_route, Row, Table, is_signal_ready, Command, Refusal, Phase, giving_move}
+use Rattle.simulator_recovery.proofs.Words.Interlockings.{ClientState, is_ready, ClientSoFar, begun, commanding, hearing, commanded_by, obeyed, refusal, released_at, set_anew, At, come_to, count, ending_authority, is_stop_due, is_withdrawn, ruled, stopped, withdrawing, withdrawn, IxlState, KnownSignalState, RouteState, changed, Commands, Datagram, Input, Tick, addressed, all_clocked, detector_hearing, given, known_point_hearing, known_signal_hearing, looking, looks, node_hearing, occupied_heard, stepped, ticked, watching, Detector, Node, Point, Signal, StepSoFar, begun_with, detector_after, empty_outbox, giving_aspect, noted, over, with_detector, with_one, with_route, Row, Table, is_signal_ready, Command, Refusal, Phase, giving_move}
 use Rattle.simulator_recovery.proofs.Words.Stations.{Site, interlocking_stepped, key_of, WorldState, IsReached}
 use Rattle.simulator_recovery.proofs.Words.Recovery.{ClientStandsByCounts}
 use Rattle.simulator_spec.specs.ixl_client.declared.command.Command.{Command as ClientCommand}
@@ -10,15 +10,14 @@ use Rattle.simulator_recovery.proofs.Lemmas.RoutesGoing.AuthorityCancels.{Counts
 use Rattle.simulator_recovery.proofs.Lemmas.RoutesGoing.BetweenSignals.{over_idle}
 use Rattle.simulator_recovery.proofs.Lemmas.Lamps.Cancelled.{OfRoute}
 use Rattle.simulator_recovery.proofs.Lemmas.Talk.ClientLinks.{commanding_stands}
-use Rattle.simulator_recovery.proofs.Lemmas.Ground.DueShapes.{along_keeps, either_keeps, one_keeps, route_keeps, where_keeps, found_in, seen_in, seen_keeps}
+use Rattle.simulator_recovery.proofs.Lemmas.Ground.DueShapes.{along_keeps, either_keeps, one_keeps, over_keeps, route_keeps, where_keeps}
 use Rattle.simulator_recovery.proofs.Lemmas.Ground.IxlClients.{changed_at, signal_client}
 use Rattle.simulator_recovery.proofs.Lemmas.Ground.IxlSoFar.{set_at}
-use Rattle.simulator_recovery.proofs.Lemmas.Ground.SignalParts.{IsGiven, IsQuiet, RulesKeep, aspect_held, behind_ending, ending_held, looking_keeps, new_signal, over_held, ticked_held, watching_keeps, noting_keeps}
+use Rattle.simulator_recovery.proofs.Lemmas.Ground.SignalParts.{IsGiven, IsQuiet, RulesKeep, aspect_held, behind_ending, ending_held, looking_keeps, new_signal, over_held, ticked_held, watching_keeps}
 use Rattle.simulator_recovery.proofs.Lemmas.Lamps.StopsGiven.{fails}
 use Rattle.simulator_recovery.proofs.Lemmas.Windows.WaitingItems.{ready_inside}
 use Rattle.simulator_recovery.proofs.Lemmas.RoutesGoing.WithdrawnSteps.{Grows, given_grows, ready_counts, rules as grow_rules, seen_known, seen_then, set_grows, step_grows}
 use Rattle.simulator_recovery.proofs.Lemmas.Ground.MovedAtOnce.{moved_keeps}
-use Rattle.simulator_recovery.proofs.Lemmas.Ground.FoundIxl.{found_routes}
 
 quiet_so : (old new : RouteState) → IsQuiet old new → is_withdrawn old.phase ≡ false → is_withdrawn new.phase ≡ false
 quiet_so old new (inl (same, kept)) is = ap is_withdrawn same ∙ is
@@ -80,11 +79,12 @@ module _ (now : ℕ) (table : Table) (number : ℕ) where
       moved_keeps NotYet now table (λ point side q available all. one_keeps NotYet (slice_get q.ixl.known_points point) _ q (λ known e. all) all)
       (refusal now table command part.ixl) command part refl (commanded_not (refusal now table command part.ixl) command part is)
 
-  found_not : (part : StepSoFar) → NotYet part → NotYet (found_in now part)
-  found_not part is = subst (λ (routes : List RouteState). OfRoute number Unwithdrawn routes []) (sym (found_routes now part)) is
+  clocked_not : (part : StepSoFar) → NotYet part → NotYet (record part { ixl = all_clocked now part.ixl })
+  unfolding all_clocked
+  clocked_not part is = is
 
-  seen_not : (key : Key) (input : Input) (part : StepSoFar) → NotYet part → NotYet (seen_in now table (given now table key input (found_in now part)))
-  seen_not key input part is = seen_keeps NotYet now table (watching_keeps now table NotYet quietly) (noting_keeps now table NotYet quietly) _ (given_not key input (found_in now part) (found_not part is))
+  seen_not : (key : Key) (input : Input) (part : StepSoFar) → NotYet part → NotYet (over (watching table) (count table) (given now table key input (record part { ixl = all_clocked now part.ixl })))
+  seen_not key input part is = over_keeps NotYet (watching table) (watching_keeps now table NotYet quietly) (count table) _ (given_not key input (record part { ixl = all_clocked now part.ixl }) (clocked_not part is))
 
 -- ---- the rules
 

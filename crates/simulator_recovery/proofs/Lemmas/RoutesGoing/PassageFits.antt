@@ -1,10 +1,10 @@
 -- What is kept of a route's passage is of as many sections as its row has.
 use Rattle.simulator_recovery.proofs.Words.Basics.{◌≡◌, ◌⊎◌, inl, inr, ℕ, ◌&&◌, Bool, true, List, Option, Some, None, slice_get, sym, ap, subst, ◌∙◌, ◌||◌, not, same_Some, suc, ◌==◌, ◌<◌, false, if◌then◌else◌, length, refl, arith, nat_tests}
 use Rattle.simulator_recovery.proofs.Words.Links.{reading, Key, reading_of}
-use Rattle.simulator_recovery.proofs.Words.Interlockings.{begun, hearing, commanded_by, obeyed, refusal, released_at, set_anew, authorised, come_to, count, ended, ending_authority, freed, freed_by_cancel, freed_by_passage, freeing_by_cancel, freeing_by_passage, freeing_next, frees_cancelled, frees_next, is_move_due, is_proceed_due, is_proceeding, is_stop_due, is_withdrawn, moved, moving, moving_one, one_freed, proceeding, withdrawing, withdrawn, IxlState, RouteState, changed, Commands, Datagram, Input, Tick, addressed, detector_hearing, given, known_point_hearing, known_signal_hearing, looking, looking_by, looks, node_hearing, occupied_heard, route_looks, stepped, watching, Detector, Node, Point, Signal, StepSoFar, detector_after, noted, over, with_detector, with_one, with_route, Row, Table, is_approach_clear, is_at_known_stop, was_authorised, Command, Refusal, Phase, passage_after, begun_with, empty_outbox, freed_sections, place_in, giving_move, noting, clear_since_after, all_clear}
+use Rattle.simulator_recovery.proofs.Words.Interlockings.{begun, hearing, commanded_by, obeyed, refusal, released_at, set_anew, authorised, come_to, count, ended, ending_authority, freed, freed_by_cancel, freed_by_passage, freeing_by_cancel, freeing_by_passage, freeing_next, frees_cancelled, frees_next, is_move_due, is_proceed_due, is_proceeding, is_stop_due, is_withdrawn, moved, moving, moving_one, one_freed, proceeding, withdrawing, withdrawn, IxlState, RouteState, changed, Commands, Datagram, Input, Tick, addressed, all_clocked, detector_hearing, given, known_point_hearing, known_signal_hearing, looking, looking_by, looks, node_hearing, occupied_heard, route_looks, stepped, watching, Detector, Node, Point, Signal, StepSoFar, detector_after, noted, over, with_detector, with_one, with_route, Row, Table, is_approach_clear, is_at_known_stop, was_authorised, Command, Refusal, Phase, passage_after, begun_with, empty_outbox, freed_sections, place_in, giving_move}
 use Rattle.simulator_recovery.proofs.Words.Stations.{Site, Beginning, new_ixl, new_route_of, interlocking_stepped, key_of, WorldState, IsReached}
 use Rattle.simulator_recovery.proofs.Lemmas.RoutesComing.DueCourse.{stopped_leaves}
-use Rattle.simulator_recovery.proofs.Lemmas.Ground.DueShapes.{along_keeps, one_keeps, over_keeps, passage_keeps, route_keeps, where_keeps, found_in, seen_in, seen_keeps}
+use Rattle.simulator_recovery.proofs.Lemmas.Ground.DueShapes.{along_keeps, one_keeps, over_keeps, passage_keeps, route_keeps, where_keeps}
 use Rattle.simulator_recovery.proofs.Lemmas.RoutesComing.DueKnown.{ticks_bring_nothing}
 use Rattle.simulator_recovery.proofs.Lemmas.Ground.IxlClients.{changed_at, mapped_at}
 use Rattle.simulator_recovery.proofs.Lemmas.RoutesComing.NothingDueMoves.{move_leaves}
@@ -12,7 +12,6 @@ use Rattle.simulator_recovery.proofs.Lemmas.RoutesComing.NothingDueProceeds.{asp
 use Rattle.simulator_recovery.proofs.Lemmas.Ground.DueTests.{first_true}
 use Rattle.simulator_recovery.proofs.Lemmas.Ground.IxlAlways.{always}
 use Rattle.simulator_recovery.proofs.Lemmas.Ground.MovedAtOnce.{moved_keeps}
-use Rattle.simulator_recovery.proofs.Lemmas.Ground.FoundIxl.{found_routes}
 
 -- ---- what is so of each route of the table, by its row, is so after a step, where each change of a route that a step may make keeps it
 
@@ -20,10 +19,9 @@ use Rattle.simulator_recovery.proofs.Lemmas.Ground.FoundIxl.{found_routes}
 abbrev pub EachRoute : (Row → RouteState → Type 0) → Table → List RouteState → Type 0
 EachRoute Q table routes = (number : ℕ) (row : Row) (route : RouteState) → slice_get table.rows number ≡ Some row → slice_get routes number ≡ Some route → Q row route
 
--- What each change of a route keeps of it, by its row: by the rules, by a command, as its approach is watched, and as its sections are noted.
+-- What each change of a route keeps of it, by its row: by the rules, by a command, and as its approach is watched.
 pub record ChangesKeep (Q : Row → RouteState → Type 0) : Type 0 where
   pub approaches : (approached : Bool) (row : Row) (route : RouteState) → Q row route → Q row (record route { approached = approached })
-  pub notes : (since : Option ℕ) (row : Row) (route : RouteState) → Q row route → Q row (record route { clear_since = since })
   pub sets : (row : Row) (route : RouteState) → Q row route → Q row (set_anew route)
   pub cancels : (row : Row) (route : RouteState) → Q row route → Q row (record route { cancelled = true })
   pub releases : (now : ℕ) (row : Row) (route : RouteState) → Q row route → Q row (released_at now route)
@@ -110,11 +108,6 @@ module _ (now : ℕ) (table : Table) (Q : Row → RouteState → Type 0) (keep :
   watching_held number part all = route_keeps Held table number _ part (λ row one there here. where_keeps Held (is_proceeding one.phase || is_withdrawn one.phase) part _
       (λ due. turned number _ part row one there here (keep.approaches (one.approached || not (is_approach_clear table part.ixl row)) row one) all) all) all
 
-  pub noting_held : (number : ℕ) (part : StepSoFar) → Held part → Held (noting now table number part)
-  unfolding noting
-  noting_held number part all = route_keeps Held table number _ part (λ row one there here. where_keeps Held (table.is_strict && was_authorised one.phase) part _
-      (λ due. turned number _ part row one there here (keep.notes (clear_since_after now (all_clear table part.ixl row.sections) one.clear_since) row one) all) all) all
-
   obeyed_held : (command : Command) (part : StepSoFar) → Held part → Held (record part { ixl = obeyed now command part.ixl })
   unfolding obeyed
   obeyed_held (Command.Request route) part all = changes route.0 set_anew part.ixl.routes (λ row one there here. keep.sets row one) all
@@ -158,11 +151,12 @@ module _ (now : ℕ) (table : Table) (Q : Row → RouteState → Type 0) (keep :
         moved_keeps Held now table (λ point side q available all. one_keeps Held (slice_get q.ixl.known_points point) _ q (λ known e. all) all)
         (refusal now table command part.ixl) command part refl (commanded_held (refusal now table command part.ixl) command part all)
 
-    found_held : (part : StepSoFar) → Held part → Held (found_in now part)
-    found_held part all = subst (λ (routes : List RouteState). EachRoute Q table routes) (sym (found_routes now part)) all
+    clocked_held : (part : StepSoFar) → Held part → Held (record part { ixl = all_clocked now part.ixl })
+    unfolding all_clocked
+    clocked_held part all = all
 
-    pub seen_held : (key : Key) (input : Input) (part : StepSoFar) → Held part → Held (seen_in now table (given now table key input (found_in now part)))
-    seen_held key input part all = seen_keeps Held now table watching_held noting_held _ (given_held key input (found_in now part) (found_held part all))
+    pub seen_held : (key : Key) (input : Input) (part : StepSoFar) → Held part → Held (over (watching table) (count table) (given now table key input (record part { ixl = all_clocked now part.ixl })))
+    seen_held key input part all = over_keeps Held (watching table) watching_held (count table) _ (given_held key input (record part { ixl = all_clocked now part.ixl }) (clocked_held part all))
 
     module _ (proceeds : ProceedsKeep Q) where
       proceeding_held : (number : ℕ) (part : StepSoFar) → Held part → Held (proceeding now table number part)
@@ -222,7 +216,6 @@ proceeds_fit table ixl row route is = record { over = refl; some_left = λ some.
 pub fits_keep : ChangesKeep Fits
 fits_keep = record {
   approaches = λ approached row route is. as_it_is row route _ refl refl is;
-  notes = λ since row route is. as_it_is row route _ refl refl is;
   sets = λ row route is. with_none row route _ refl refl is;
   cancels = λ row route is. as_it_is row route _ refl refl is;
   releases = λ now row route is. as_it_is row route _ refl refl is;

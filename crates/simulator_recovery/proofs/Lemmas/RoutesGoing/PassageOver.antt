@@ -1,11 +1,11 @@
 -- A route over which a train has gone isn't set any more: its passage lets its next section go, whichever that is.
 use Rattle.simulator_recovery.proofs.Words.Basics.{◌≡◌, ◌≢◌, ◌⊎◌, inl, inr, ℕ, suc, ◌<◌, ◌==◌, ◌&&◌, Bool, true, false, List, length, Option, Some, None, slice_get, refl, sym, ap, subst, ◌∙◌, arith, nat_tests, none-some, ⊎_elim, ◌≤◌, IsTrue, get_or, map, contains, cases_lt, slice_get-get_or}
 use Rattle.simulator_recovery.proofs.Words.Links.{reading_of}
-use Rattle.simulator_recovery.proofs.Words.Interlockings.{At, Freeable, IsClear, IsRouteOf, SomeFreeable, authorised, count, ended, freed, freed_by_cancel, freed_by_passage, freeing_by_cancel, freeing_by_passage, freeing_next, frees_cancelled, frees_next, is_move_due, is_proceed_due, moved, moving, moving_one, one_freed, proceeding, ruled, IxlState, KnownDetectorState, RouteState, changed, Input, given, stepped, ticked, StepSoFar, begun_with, empty_outbox, giving_aspect, giving_move, over, with_route, Need, Row, Table, Phase, IsTableOf, as_route, as_section, freed_sections, was_authorised}
+use Rattle.simulator_recovery.proofs.Words.Interlockings.{At, Freeable, IsClear, IsRouteOf, SomeFreeable, authorised, count, ended, freed, freed_by_cancel, freed_by_passage, freeing_by_cancel, freeing_by_passage, freeing_next, frees_cancelled, frees_next, is_move_due, is_proceed_due, moved, moving, moving_one, one_freed, proceeding, ruled, IxlState, KnownDetectorState, RouteState, changed, Input, all_clocked, given, stepped, ticked, watching, StepSoFar, begun_with, empty_outbox, giving_aspect, giving_move, over, with_route, Need, Row, Table, Phase, IsTableOf, as_route, as_section, freed_sections, was_authorised}
 use Rattle.simulator_recovery.proofs.Words.Stations.{Site, Beginning, new_ixl, new_route_of, interlocking_stepped, key_of, WorldState, IsReached, AreSections, HasSection, IsStation, RouteId, SectionId}
 use Rattle.simulator_recovery.proofs.Words.Recovery.{IsPassed}
 use Rattle.std.proofs.Common.{All}
-use Rattle.simulator_recovery.proofs.Lemmas.Ground.DueShapes.{along_keeps, each_over, no_route, over_keeps, repeated_keeps, route_keeps, where_keeps, found_in, seen_in}
+use Rattle.simulator_recovery.proofs.Lemmas.Ground.DueShapes.{along_keeps, each_over, no_route, over_keeps, repeated_keeps, route_keeps, where_keeps}
 use Rattle.simulator_recovery.proofs.Lemmas.RoutesComing.DueKnown.{BringsNothing, clear_before, ticks_bring_nothing}
 use Rattle.simulator_recovery.proofs.Lemmas.Ground.IxlAlways.{always_whole}
 use Rattle.simulator_recovery.proofs.Lemmas.Ground.IxlClients.{changed_at, mapped_at}
@@ -163,7 +163,7 @@ module _ (law : PassageLaw) (site : Site) (table : Table) (input : Input) (world
   begins = begun_with world.interlocking.ixl empty_outbox
 
   seen : StepSoFar
-  seen = seen_in at_clock table (given at_clock table (key_of site) input (found_in at_clock begins))
+  seen = over (watching table) (count table) (given at_clock table (key_of site) input (record begins { ixl = all_clocked at_clock begins.ixl }))
 
   abbrev rules : StepSoFar
   rules = ruled at_clock table seen

@@ -1,20 +1,21 @@
 -- What a route saw of its sections since its authority was given agrees with what is known of them: a section that is clear was last seen so,
 -- and one that is occupied was seen so.
-use Rattle.simulator_recovery.proofs.Words.Basics.{◌≡◌, ◌≢◌, ◌⊎◌, inl, inr, ℕ, suc, ◌<◌, ◌≤◌, ◌==◌, not, ◌||◌, Bool, true, false, if◌then◌else◌, List, [], ◌++◌, length, map, Option, Some, None, slice_get, refl, sym, ap, subst, ◌∙◌, arith, contains, contains-empty, nat_cmp, cases_lt, false≢true, get_or_from_slice_get, same_Some, slice_get_within, ◌&&◌}
+use Rattle.simulator_recovery.proofs.Words.Basics.{◌≡◌, ◌≢◌, ◌⊎◌, inl, inr, ℕ, suc, ◌<◌, ◌≤◌, ◌==◌, not, ◌||◌, Bool, true, false, if◌then◌else◌, List, [], ◌++◌, length, map, Option, Some, None, slice_get, refl, sym, ap, subst, ◌∙◌, arith, contains, contains-empty, nat_cmp, cases_lt, false≢true, get_or_from_slice_get, same_Some, slice_get_within}
 use Rattle.simulator_recovery.proofs.Words.Links.{reading_of, reading, Key}
 use Rattle.simulator_recovery.proofs.Words.Controllers.{Side}
-use Rattle.simulator_recovery.proofs.Words.Interlockings.{passage_after, IsReportedIn, IsTableOf, as_route, as_section, ClientState, is_outside, is_ready, begun, clocked, hearing, Indication, commanded_by, obeyed, refusal, AllClear, ReportedBy, authorised, come_to, count, freed, freed_by_cancel, is_move_due, is_proceed_due, is_proceeding, is_withdrawn, moved, moving, moving_one, one_freed, proceeding, ruled, IxlState, KnownDetectorState, RouteState, changed, Commands, Datagram, Input, Tick, addressed, clocked_detector, detector_hearing, given, known_point_hearing, known_signal_hearing, looking, looks, node_hearing, occupied_heard, stepped, ticked, told_before, told_now, watching, Detector, Node, Point, Signal, StepSoFar, along, begun_with, detector_after, empty_outbox, giving_aspect, noted, with_detector, with_one, with_route, Row, Table, was_authorised, Command, Refusal, Phase, giving_move, closed_behind, noting}
+use Rattle.simulator_recovery.proofs.Words.Interlockings.{passage_after, IsReportedIn, IsTableOf, as_route, as_section, ClientState, is_outside, is_ready, begun, clocked, hearing, Indication, commanded_by, obeyed, refusal, AllClear, ReportedBy, authorised, come_to, count, freed, freed_by_cancel, is_move_due, is_proceed_due, is_proceeding, is_withdrawn, moved, moving, moving_one, one_freed, proceeding, ruled, IxlState, KnownDetectorState, RouteState, changed, Commands, Datagram, Input, Tick, addressed, all_clocked, clocked_detector, detector_hearing, given, known_point_hearing, known_signal_hearing, looking, looks, node_hearing, occupied_heard, stepped, ticked, told_before, told_now, watching, Detector, Node, Point, Signal, StepSoFar, along, begun_with, detector_after, empty_outbox, giving_aspect, noted, over, with_detector, with_one, with_route, Row, Table, was_authorised, Command, Refusal, Phase, giving_move}
 use Rattle.simulator_recovery.proofs.Words.Stations.{Places, AreSections, DetectorEntry, Site, Distinct, IsStation, SectionId, Beginning, new_ixl, new_route_of, interlocking_stepped, key_of, WorldState, IsReached}
 use Rattle.simulator_recovery.proofs.Lemmas.Ground.AtLink.{mapped}
+use Rattle.simulator_recovery.proofs.Lemmas.Lamps.Cancelled.{clocked_routes}
 use Rattle.simulator_recovery.proofs.Lemmas.RoutesComing.DueAccepted.{until_freed}
-use Rattle.simulator_recovery.proofs.Lemmas.Ground.DueShapes.{along_keeps, one_keeps, over_keeps, route_keeps, where_keeps, found_in, seen_in, seen_keeps}
+use Rattle.simulator_recovery.proofs.Lemmas.Ground.DueShapes.{along_keeps, one_keeps, over_keeps, route_keeps, where_keeps}
 use Rattle.simulator_recovery.proofs.Lemmas.Ground.DueTests.{clear_then}
 use Rattle.simulator_recovery.proofs.Lemmas.RoutesComing.DueKnown.{BringsNothing, reported_before, ticks_bring_nothing}
 use Rattle.simulator_recovery.proofs.Lemmas.Ground.IxlAlways.{always_whole}
 use Rattle.simulator_recovery.proofs.Lemmas.Ground.IxlClients.{mapped_at}
 use Rattle.simulator_recovery.proofs.Lemmas.RoutesComing.NothingDueMoves.{move_leaves}
 use Rattle.simulator_recovery.proofs.Lemmas.RoutesComing.NothingDueProceeds.{aspect_leaves}
-use Rattle.simulator_recovery.proofs.Lemmas.RoutesGoing.PassageFits.{ChangesKeep, EachRoute, commanded_held, moved_held, turned, watching_held, noting_held}
+use Rattle.simulator_recovery.proofs.Lemmas.RoutesGoing.PassageFits.{ChangesKeep, EachRoute, commanded_held, moved_held, turned, watching_held}
 use Rattle.simulator_recovery.proofs.Lemmas.RoutesGoing.PassageLooks.{SeesWhere, WasSeen, along_both, before_sees, far_before, far_now, looks_leave, now_sees}
 use Rattle.simulator_recovery.proofs.Lemmas.Sections.SectionReports.{own_once}
 use Rattle.simulator_recovery.proofs.Lemmas.Sections.SectionsClient.{after_client, after_inside}
@@ -22,8 +23,6 @@ use Rattle.simulator_recovery.proofs.Lemmas.Sections.SectionsSensed.{one_detecto
 use Rattle.simulator_recovery.proofs.Lemmas.Lamps.StopsGiven.{changed_elsewhere, changed_here, clocked_stage, differs, is_equal}
 use Rattle.simulator_recovery.proofs.Lemmas.Windows.WaitingItems.{ready_inside}
 use Rattle.simulator_recovery.proofs.Lemmas.Ground.MovedAtOnce.{moved_keeps}
-use Rattle.simulator_recovery.proofs.Lemmas.Ground.FoundIxl.{detector_at, found_detector, found_routes}
-use Rattle.simulator_recovery.proofs.Lemmas.Ground.FoundClients.{found_inside}
 
 -- a section is known so: its detector is ready, and last told it as occupied, or as clear
 abbrev pub IsKnownSo : Bool → Table → IxlState → ℕ → Type 0
@@ -66,7 +65,6 @@ one_freed_saw busy holds row route Phase.Withdrawn e saw = saw
 saw_keeps : (busy : Bool) (holds : ℕ → Type 0) → ChangesKeep (SawWhere busy holds)
 saw_keeps busy holds = record {
   approaches = λ approached row route saw. saw;
-  notes = λ since row route saw. saw;
   sets = λ row route saw authorised. absurd (false≢true authorised);
   cancels = λ row route saw. saw;
   releases = λ now row route saw. saw;
@@ -97,8 +95,9 @@ unseen false table ixl row route all place section stands known = contains-empty
 unseen true table ixl row route all place section stands known =
     absurd (not_both table ixl section (subst (IsKnownSo false table ixl) (get_or_from_slice_get row.sections place section section stands) (all place section (slice_get_within row.sections place section stands))) known)
 
-known_found : (busy : Bool) (now : ℕ) (table : Table) (part : StepSoFar) (section : ℕ) → IsKnownSo busy table (found_in now part).ixl section → IsKnownSo busy table part.ixl section
-known_found busy now table part section (reporter, reports, (known, there, (ready, told))) = (
+known_clocked : (busy : Bool) (now : ℕ) (table : Table) (ixl : IxlState) (section : ℕ) → IsKnownSo busy table (all_clocked now ixl) section → IsKnownSo busy table ixl section
+unfolding all_clocked
+known_clocked busy now table ixl section (reporter, reports, (known, there, (ready, told))) = (
   reporter,
   reports,
   (
@@ -106,29 +105,19 @@ known_found busy now table part section (reporter, reports, (known, there, (read
     found.1,
     (
       ap is_ready (sym (clocked_stage now was.client inside)) ∙ ready_then,
-      sym (ap (λ (o : Places). contains o reporter.1) (ap (λ (k : KnownDetectorState). k.occupied) found.2 ∙ (after_inside at.occupied (closed_behind now at.client) found_in_connection ∙ after_inside was.occupied (clocked now was.client) inside))) ∙ told,
+      sym (ap (λ (o : Places). contains o reporter.1) (ap (λ (k : KnownDetectorState). k.occupied) found.2 ∙ after_inside was.occupied (clocked now was.client) inside)) ∙ told,
     ),
   ),
 )
   where
-    found : (one : KnownDetectorState) × (slice_get part.ixl.detectors reporter.0 ≡ Some one) × (known ≡ found_detector now one)
-    found = detector_at now part reporter.0 known there
+    found : (one : KnownDetectorState) × (slice_get ixl.detectors reporter.0 ≡ Some one) × (known ≡ clocked_detector now one)
+    found = mapped_at (clocked_detector now) ixl.detectors reporter.0 known there
 
     was : KnownDetectorState
     was = found.0
 
-    at : KnownDetectorState
-    at = clocked_detector now was
-
-    ready_found : is_ready (closed_behind now at.client).stage ≡ true
-    ready_found = ap (λ (c : ClientState). is_ready c.stage) (sym (after_client at.occupied (closed_behind now at.client))) ∙ (ap (λ (k : KnownDetectorState). is_ready k.client.stage) (sym found.2) ∙ ready)
-
-    -- one whose link was closed is outside
-    found_in_connection : is_outside (closed_behind now at.client).stage ≡ false
-    found_in_connection = ready_inside (closed_behind now at.client).stage ready_found
-
     ready_then : is_ready (clocked now was.client).stage ≡ true
-    ready_then = ap (λ (c : ClientState). is_ready c.stage) (sym (after_client was.occupied (clocked now was.client))) ∙ (ap (λ (c : ClientState). is_ready c.stage) (sym (found_inside now at.client found_in_connection)) ∙ ready_found)
+    ready_then = ap (λ (c : ClientState). is_ready c.stage) (sym (after_client was.occupied (clocked now was.client))) ∙ (ap (λ (k : KnownDetectorState). is_ready k.client.stage) (sym found.2) ∙ ready)
 
     inside : is_outside (clocked now was.client).stage ≡ false
     inside = ready_inside (clocked now was.client).stage ready_then
@@ -337,17 +326,15 @@ module _ (busy : Bool) (now : ℕ) (table : Table) (stand : StandOnce table) whe
       in moved_keeps Saw now table (λ point side q available. moves_saw point side q) cause command part refl (weaker busy table (IsKnownSo busy table part.ixl) (IsKnownSo busy table (commanded_by now cause command part.ixl)) (commanded_by now cause command part.ixl).routes (known_same busy table part.ixl (commanded_by now cause command part.ixl) (commanded_leaves cause command part.ixl))
       (commanded_held now table (SawWhere busy (IsKnownSo busy table part.ixl)) (saw_keeps busy (IsKnownSo busy table part.ixl)) cause command part saw))
 
-  found_saw : (part : StepSoFar) → Saw part → Saw (found_in now part)
-  found_saw part saw = weaker busy table (IsKnownSo busy table part.ixl) (IsKnownSo busy table (found_in now part).ixl) (found_in now part).ixl.routes (known_found busy now table part)
-      (subst (λ (routes : List RouteState). EachRoute (SawWhere busy (IsKnownSo busy table part.ixl)) table routes) (sym (found_routes now part)) saw)
+  clocked_saw : (part : StepSoFar) → Saw part → Saw (record part { ixl = all_clocked now part.ixl })
+  clocked_saw part saw = weaker busy table (IsKnownSo busy table part.ixl) (IsKnownSo busy table (all_clocked now part.ixl)) (all_clocked now part.ixl).routes (known_clocked busy now table part.ixl)
+      (subst (λ (routes : List RouteState). EachRoute (SawWhere busy (IsKnownSo busy table part.ixl)) table routes) (sym (clocked_routes now part.ixl)) saw)
 
   -- ---- the rules and the ticks
 
-  watched_leaves : (heard : StepSoFar) → (seen_in now table heard).ixl.detectors ≡ heard.ixl.detectors
-  unfolding watching noting
-  watched_leaves heard = seen_keeps Q now table
-      (λ number q same. route_keeps Q table number _ q (λ row one there here. where_keeps Q (is_proceeding one.phase || is_withdrawn one.phase) q _ (λ due. same) same) same)
-      (λ number q same. route_keeps Q table number _ q (λ row one there here. where_keeps Q (table.is_strict && was_authorised one.phase) q _ (λ due. same) same) same) heard refl
+  watched_leaves : (heard : StepSoFar) → (over (watching table) (count table) heard).ixl.detectors ≡ heard.ixl.detectors
+  unfolding watching
+  watched_leaves heard = over_keeps Q (watching table) (λ number q same. route_keeps Q table number _ q (λ row one there here. where_keeps Q (is_proceeding one.phase || is_withdrawn one.phase) q _ (λ due. same) same) same) (count table) heard refl
     where
       Q : StepSoFar → Type 0
       Q q = q.ixl.detectors ≡ heard.ixl.detectors
@@ -385,17 +372,16 @@ module _ (busy : Bool) (now : ℕ) (table : Table) (stand : StandOnce table) whe
             )
 
     abbrev seen : StepSoFar
-    seen = seen_in now table heard
+    seen = over (watching table) (count table) heard
 
     moved_saw : Agrees (moved now table seen)
     moved_saw = (
       moved_held now table (SawWhere busy Known) (saw_keeps busy Known) seen
-          (seen_keeps (λ (q : StepSoFar). EachRoute (SawWhere busy Known) table q.ixl.routes) now table (watching_held now table (SawWhere busy Known) (saw_keeps busy Known))
-          (noting_held now table (SawWhere busy Known) (saw_keeps busy Known)) heard saw),
+          (over_keeps (λ (q : StepSoFar). EachRoute (SawWhere busy Known) table q.ixl.routes) (watching table) (watching_held now table (SawWhere busy Known) (saw_keeps busy Known)) (count table) heard saw),
       moved_leaves seen ∙ watched_leaves heard,
     )
 
-    rules_saw : Saw (ruled now table (seen_in now table heard))
+    rules_saw : Saw (ruled now table (over (watching table) (count table) heard))
     rules_saw =
         let ruled_so = over_keeps Agrees (proceeding now table) proceeding_saw (count table) (moved now table seen) moved_saw
         in weaker busy table Known (IsKnownSo busy table (ruled now table seen).ixl) (ruled now table seen).ixl.routes (known_same busy table heard.ixl (ruled now table seen).ixl ruled_so.1) ruled_so.0
@@ -409,7 +395,7 @@ module _ (busy : Bool) (now : ℕ) (table : Table) (stand : StandOnce table) whe
 
   step_saw : (key : Key) (input : Input) (part : StepSoFar) → Saw part → Saw (stepped now table key input part)
   unfolding stepped
-  step_saw key input part saw = ticked_saw input _ (rules_saw (given now table key input (found_in now part)) (given_saw key input (found_in now part) (found_saw part saw)))
+  step_saw key input part saw = ticked_saw input _ (rules_saw (given now table key input (record part { ixl = all_clocked now part.ixl })) (given_saw key input (record part { ixl = all_clocked now part.ixl }) (clocked_saw part saw)))
 
 -- ---- every list of events
 

@@ -1,16 +1,15 @@
 -- What a route has seen of its sections it goes on to have seen, as long as it stays set.
 use Rattle.simulator_recovery.proofs.Words.Basics.{◌≡◌, ◌⊎◌, inl, inr, ℕ, true, List, Option, Some, None, slice_get, refl, sym, ap, subst, ◌∙◌, contains, false≢true, same_Some}
 use Rattle.simulator_recovery.proofs.Words.Links.{reading_of, reading, Key}
-use Rattle.simulator_recovery.proofs.Words.Interlockings.{commanded_by, obeyed, refusal, released_at, request_refusal, set_anew, IxlState, RouteState, Commands, Datagram, Input, Tick, addressed, given, stepped, StepSoFar, begun_with, empty_outbox, Row, Table, is_set, was_authorised, Command, Refusal, Phase, giving_move}
+use Rattle.simulator_recovery.proofs.Words.Interlockings.{commanded_by, obeyed, refusal, released_at, request_refusal, set_anew, count, IxlState, RouteState, Commands, Datagram, Input, Tick, addressed, all_clocked, given, stepped, watching, StepSoFar, begun_with, empty_outbox, Row, Table, is_set, was_authorised, Command, Refusal, Phase, giving_move}
 use Rattle.simulator_recovery.proofs.Words.Stations.{Site, RouteId, Event, Beginning, new_ixl, new_route_of, happens, interlocking_stepped, key_of, WorldState}
 use Rattle.simulator_recovery.proofs.Lemmas.Ground.IxlAlways.{event_then}
-use Rattle.simulator_recovery.proofs.Lemmas.RoutesComing.DueRoutes.{GoOnward, GoesOnward, heard_at, ruled_held, same_phase, watching_held, noting_held}
-use Rattle.simulator_recovery.proofs.Lemmas.Ground.DueShapes.{one_keeps, found_in, seen_keeps}
+use Rattle.simulator_recovery.proofs.Lemmas.RoutesComing.DueRoutes.{GoOnward, GoesOnward, heard_at, ruled_held, same_phase, watching_held}
+use Rattle.simulator_recovery.proofs.Lemmas.Ground.DueShapes.{over_keeps, one_keeps}
 use Rattle.simulator_recovery.proofs.Lemmas.RoutesComing.DueKnown.{ticks_bring_nothing}
 use Rattle.simulator_recovery.proofs.Lemmas.Ground.IxlClients.{changed_at, mapped_at}
 use Rattle.simulator_recovery.proofs.Lemmas.Lamps.StopsGiven.{request_unset}
 use Rattle.simulator_recovery.proofs.Lemmas.Ground.MovedAtOnce.{moved_keeps}
-use Rattle.simulator_recovery.proofs.Lemmas.Ground.FoundIxl.{found_routes}
 
 pub authorised_set : (p : Phase) → was_authorised p ≡ true → is_set p ≡ true
 authorised_set Phase.Free e = absurd (false≢true e)
@@ -89,11 +88,10 @@ module _ (k place : ℕ) where
 
   step_stays : (now : ℕ) (table : Table) (key : Key) (input : Input) (part : StepSoFar) (one : RouteState) → slice_get part.ixl.routes k ≡ Some one → was_authorised one.phase ≡ true → contains one.passage.seen place ≡ true
       → Stays (stepped now table key input part).ixl.routes
-  unfolding stepped
+  unfolding stepped all_clocked
   step_stays now table key input part one at authorised seen = subst Stays (sym (ticks_bring_nothing now input _).routes)
       (ruled_held now table Stays onward _
-      (seen_keeps (λ (q : StepSoFar). Stays q.ixl.routes) now table (watching_held now table Stays onward) (noting_held now table Stays onward) _
-      (given_stays now table key input (found_in now part) one (ap (λ (routes : List RouteState). slice_get routes k) (found_routes now part) ∙ at) authorised seen)))
+      (over_keeps (λ (q : StepSoFar). Stays q.ixl.routes) (watching table) (watching_held now table Stays onward) (count table) _ (given_stays now table key input (record part { ixl = all_clocked now part.ixl }) one at authorised seen)))
 
   new_stays : (site : Site) (table : Table) (begins : Beginning) → Stays (new_ixl site table begins).routes
   unfolding new_ixl

@@ -2,17 +2,15 @@
 -- set anew.
 use Rattle.simulator_recovery.proofs.Words.Basics.{◌≡◌, ℕ, ◌≤◌, Bool, true, false, List, [], Option, Some, None, slice_get, option_or, refl, sym, ap, subst, ◌∙◌, arith, false≢true, same_Some}
 use Rattle.simulator_recovery.proofs.Words.Links.{reading_of}
-use Rattle.simulator_recovery.proofs.Words.Interlockings.{IxlState, RouteState, Command, Commands, Input, Phase, Refusal, StepSoFar, Table, begun_with, commanded_by, empty_outbox, given, is_ended, is_proceeding, is_set, is_waiting, is_withdrawn, moved_at_once, obeyed, refusal, released_at, stepped, as_found}
+use Rattle.simulator_recovery.proofs.Words.Interlockings.{IxlState, RouteState, Command, Commands, Input, Phase, Refusal, StepSoFar, Table, all_clocked, begun_with, commanded_by, empty_outbox, given, is_ended, is_proceeding, is_set, is_waiting, is_withdrawn, moved_at_once, obeyed, refusal, released_at, stepped}
 use Rattle.simulator_recovery.proofs.Words.Stations.{Site, RouteId, Beginning, Event, new_ixl, new_route_of, interlocking_stepped, key_of, WorldState, IsReached}
 use Rattle.simulator_recovery.proofs.Words.Recovery.{SetsNot}
 use Rattle.simulator_recovery.proofs.Lemmas.Ground.IxlClients.{mapped_at}
-use Rattle.simulator_recovery.proofs.Lemmas.Lamps.Cancelled.{OfRoute}
+use Rattle.simulator_recovery.proofs.Lemmas.Lamps.Cancelled.{OfRoute, clocked_routes}
 use Rattle.simulator_recovery.proofs.Lemmas.Lamps.StopsGiven.{changed_here}
 use Rattle.simulator_recovery.proofs.Lemmas.RoutesGoing.ReadingsAlways.{always_read}
 use Rattle.simulator_recovery.proofs.Lemmas.RoutesGoing.RouteTurns.{TurnsKeep, behind_input_held, step_held}
 use Rattle.simulator_recovery.proofs.Lemmas.RoutesGoing.WithdrawnSteps.{Apart}
-use Rattle.simulator_recovery.proofs.Lemmas.Ground.DueShapes.{found_in}
-use Rattle.simulator_recovery.proofs.Lemmas.Ground.FoundIxl.{found_is, found_routes}
 
 -- ---- while it is set it is cancelled, and its authority has ended
 
@@ -48,7 +46,6 @@ released_keeps now number = record {
   freed = λ route by clock noted. ((by clock noted).0, λ set. absurd (false≢true set));
   authorised = λ table ixl row route waits by clock noted. absurd (unreleased now route (unended is_waiting refl (λ at done. refl) route.phase waits) by clock noted);
   watched = λ route approached by. by;
-  noted = λ route since by. by;
   looked = λ route passage by. by;
   sets = λ asked route obeys same by clock noted. absurd (cc noted);
   cancelled = λ route by clock noted. let before = by clock noted in (before.0, λ set. (refl, (before.1 set).1));
@@ -85,7 +82,6 @@ noted_keeps now number clock = record {
   freed = λ route noted. noted;
   authorised = λ table ixl row route waits noted. noted;
   watched = λ route approached noted. noted;
-  noted = λ route since noted. noted;
   looked = λ route passage noted. noted;
   sets = λ asked route obeys same noted. absurd (obeys (sym same));
   cancelled = λ route noted. noted;
@@ -106,28 +102,22 @@ unfolding obeyed
 released_there now ixl route one there = changed_here (released_at now) route.0 ixl.routes one there
 
 -- its clock is noted, unless one was noted before
-pub release_noted : (site : Site) (table : Table) (world : WorldState) (route : RouteId) (one : RouteState) (clock : ℕ) → refusal (reading_of world.interlocking.clock) table (Command.Release route) (as_found (reading_of world.interlocking.clock) world.interlocking.ixl) ≡ None
+pub release_noted : (site : Site) (table : Table) (world : WorldState) (route : RouteId) (one : RouteState) (clock : ℕ) → refusal (reading_of world.interlocking.clock) table (Command.Release route) (all_clocked (reading_of world.interlocking.clock) world.interlocking.ixl) ≡ None
     → slice_get world.interlocking.ixl.routes route.0 ≡ Some one → IsReleasedAt clock (released_at (reading_of world.interlocking.clock) one) → OfRoute route.0 (IsReleasedAt clock) (interlocking_stepped site table (Commands (Command.Release route)) world).interlocking.ixl.routes []
 unfolding interlocking_stepped stepped given moved_at_once
 release_noted site table world route one clock none there noted =
-    behind_input_held now table route.0 (λ command. SetsNot route.0 (Event.Request command)) (IsReleasedAt clock) (noted_keeps now route.0 clock) (Commands (Command.Release route)) (heard_by (refusal now table (Command.Release route) finds.ixl)) heard_so
+    behind_input_held now table route.0 (λ command. SetsNot route.0 (Event.Request command)) (IsReleasedAt clock) (noted_keeps now route.0 clock) (Commands (Command.Release route)) (heard_by (refusal now table (Command.Release route) clocked.ixl)) heard_so
   where
     now : ℕ
     now = reading_of world.interlocking.clock
 
-    begins : StepSoFar
-    begins = begun_with world.interlocking.ixl empty_outbox
-
-    finds : StepSoFar
-    finds = found_in now begins
-
-    not_refused : refusal now table (Command.Release route) finds.ixl ≡ None
-    not_refused = ap (refusal now table (Command.Release route)) (found_is now begins) ∙ none
+    clocked : StepSoFar
+    clocked = record (begun_with world.interlocking.ixl empty_outbox) { ixl = all_clocked now world.interlocking.ixl }
 
     heard_by : Option Refusal → StepSoFar
-    heard_by cause = moved_at_once now cause (Command.Release route) (record finds { ixl = commanded_by now cause (Command.Release route) finds.ixl })
+    heard_by cause = moved_at_once now cause (Command.Release route) (record clocked { ixl = commanded_by now cause (Command.Release route) clocked.ixl })
 
-    heard_so : OfRoute route.0 (IsReleasedAt clock) (heard_by (refusal now table (Command.Release route) finds.ixl)).ixl.routes []
-    heard_so = subst (λ (cause : Option Refusal). OfRoute route.0 (IsReleasedAt clock) (heard_by cause).ixl.routes []) (sym not_refused) (λ later e.
-        let same = same_Some (released_at now one) later (sym (released_there now finds.ixl route one (ap (λ (routes : List RouteState). slice_get routes route.0) (found_routes now begins) ∙ there)) ∙ e)
+    heard_so : OfRoute route.0 (IsReleasedAt clock) (heard_by (refusal now table (Command.Release route) clocked.ixl)).ixl.routes []
+    heard_so = subst (λ (cause : Option Refusal). OfRoute route.0 (IsReleasedAt clock) (heard_by cause).ixl.routes []) (sym none) (λ later e.
+        let same = same_Some (released_at now one) later (sym (released_there now clocked.ixl route one (ap (λ (routes : List RouteState). slice_get routes route.0) (clocked_routes now world.interlocking.ixl) ∙ there)) ∙ e)
         in subst (IsReleasedAt clock) same noted)

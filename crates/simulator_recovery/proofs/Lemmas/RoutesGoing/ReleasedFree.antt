@@ -1,10 +1,10 @@
 -- So long after its release a route is free, whether a train came or not.
 use Rattle.simulator_recovery.proofs.Words.Basics.{◌≡◌, inr, ℕ, ◌+◌, ◌*◌, ◌≤◌, Bool, true, false, List, [], length, Option, Some, None, slice_get, option_or, refl, sym, ap, subst, ◌∙◌, arith, false≢true, same_Some}
 use Rattle.simulator_recovery.proofs.Words.Links.{Each, reading_of}
-use Rattle.simulator_recovery.proofs.Words.Interlockings.{IsReleaseOver, IsRouteOf, IxlState, RouteState, Command, Commands, Input, Phase, Row, SitedTable, Table, as_found, is_ended, is_set, refusal, release_refusal, released_at, reply}
+use Rattle.simulator_recovery.proofs.Words.Interlockings.{IsReleaseOver, IsRouteOf, IxlState, RouteState, Command, Commands, Input, Phase, Row, SitedTable, Table, all_clocked, is_ended, is_set, refusal, release_refusal, released_at, reply}
 use Rattle.simulator_recovery.proofs.Words.Stations.{Site, RouteId, Once, IsStation, Event, Answer, Flowing, answered, happens, interlocking_stepped, WorldState, Played, IsReached}
 use Rattle.simulator_recovery.proofs.Words.Recovery.{AcceptsRelease, FreeLaw, HasTime, IsFlow, IsNotSetAnew, IsWork, LawsBelow, approach_time_rounds, behind_release, good_rounds}
-use Rattle.simulator_recovery.proofs.Lemmas.Lamps.Cancelled.{OfRoute, not_refused, as_found_routes}
+use Rattle.simulator_recovery.proofs.Lemmas.Lamps.Cancelled.{OfRoute, clocked_routes, not_refused}
 use Rattle.simulator_recovery.proofs.Lemmas.Lamps.StopComes.{request_happens}
 use Rattle.simulator_recovery.proofs.Lemmas.Rounds.Clocks.{calm_still}
 use Rattle.simulator_recovery.proofs.Lemmas.Rounds.Rounds.{IsAt, rounds_reached, tried_happens, tried_reached}
@@ -73,9 +73,9 @@ released_free_later frees laws more flowing number row route clock flow works ap
 -- ---- after a release that is accepted
 
 accepted_so : (site : Site) (table : Table) (world : WorldState) (route : RouteId) → answered site table (Event.Request (Command.Release route)) world ≡ Answer.Accepted
-    → refusal (reading_of world.interlocking.clock) table (Command.Release route) (as_found (reading_of world.interlocking.clock) world.interlocking.ixl) ≡ None
+    → refusal (reading_of world.interlocking.clock) table (Command.Release route) (all_clocked (reading_of world.interlocking.clock) world.interlocking.ixl) ≡ None
 unfolding answered reply
-accepted_so site table world route accepted = not_refused (refusal (reading_of world.interlocking.clock) table (Command.Release route) (as_found (reading_of world.interlocking.clock) world.interlocking.ixl)) accepted
+accepted_so site table world route accepted = not_refused (refusal (reading_of world.interlocking.clock) table (Command.Release route) (all_clocked (reading_of world.interlocking.clock) world.interlocking.ixl)) accepted
 
 unkept_so : (now : ℕ) (ixl : IxlState) (found : Option RouteState) → found ≡ None → release_refusal now ixl found ≡ None → ⊥
 unkept_so now ixl None e none = absurd (cc none)
@@ -128,7 +128,7 @@ module _ (frees : FreeLaw) (laws : LawsBelow) (more : List (List Event)) (flowin
   unfolding happens
   stepped = refl
 
-  none : refusal now table (Command.Release route) (as_found now before.interlocking.ixl) ≡ None
+  none : refusal now table (Command.Release route) (all_clocked now before.interlocking.ixl) ≡ None
   none = accepted_so site table before route accepted
 
   -- the clocks are as they were
@@ -141,7 +141,7 @@ module _ (frees : FreeLaw) (laws : LawsBelow) (more : List (List Event)) (flowin
 
   module _ (one : RouteState) (kept : slice_get before.interlocking.ixl.routes route.0 ≡ Some one) where
     found : (one.cancelled ≡ true) × (is_ended one.phase ≡ true)
-    found = release_finds now table route (as_found now before.interlocking.ixl) one none (ap (λ (routes : List RouteState). slice_get routes route.0) (as_found_routes now before.interlocking.ixl) ∙ kept)
+    found = release_finds now table route (all_clocked now before.interlocking.ixl) one none (ap (λ (routes : List RouteState). slice_get routes route.0) (clocked_routes now before.interlocking.ixl) ∙ kept)
 
     noted : (clock : ℕ) × (clock ≤ now) × IsReleasedAt clock (released_at now one)
     noted = noted_then now one (releases_passed site table before flow.reached route.0 one kept) found.0 found.1
@@ -158,5 +158,5 @@ module _ (frees : FreeLaw) (laws : LawsBelow) (more : List (List Event)) (flowin
   free_behind_release = by_route (slice_get before.interlocking.ixl.routes route.0) refl
     where
       by_route : (kept : Option RouteState) → slice_get before.interlocking.ixl.routes route.0 ≡ kept → (state : RouteState) → slice_get (good_rounds more behind).state.run.interlocking.ixl.routes route.0 ≡ Some state → is_set state.phase ≡ false
-      by_route None e = absurd (never_unkept now table route (as_found now before.interlocking.ixl) none (ap (λ (routes : List RouteState). slice_get routes route.0) (as_found_routes now before.interlocking.ixl) ∙ e))
+      by_route None e = absurd (never_unkept now table route (all_clocked now before.interlocking.ixl) none (ap (λ (routes : List RouteState). slice_get routes route.0) (clocked_routes now before.interlocking.ixl) ∙ e))
       by_route (Some one) e = free_then one e

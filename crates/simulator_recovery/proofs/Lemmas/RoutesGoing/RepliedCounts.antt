@@ -1,11 +1,10 @@
 -- A signal whose initialisation is completed gives no more reports than items come to it, and the one that it owes.
 use Rattle.simulator_recovery.proofs.Words.Basics.{◌≡◌, ℕ, zero, suc, ◌+◌, ◌-◌, ◌≤◌, Bool, true, false, not, ◌&&◌, ◌||◌, nat_le, List, [], ◌∷◌, ◌++◌, length, Option, Some, None, Result, Ok, Err, if◌then◌else◌, refl, sym, ap, subst, ◌∙◌, arith, is_ok, false≢true}
 use Rattle.simulator_recovery.proofs.Words.Links.{acceptance, answer_to_send, receiving, sending_item, ticking, deadline, settled, connection_limit, stops_at_greatest, beating as link_beating, entered, giving, limited, sending, silent as stays_silent, telling, LinkState, is_open, is_up, Phase, Reason, Heartbeat}
-use Rattle.simulator_recovery.proofs.Words.Controllers.{reading, writing, SciFault, Aspect, InitialisationCompleted, InitialisationRequest, StartInitialisation, VersionAnswer, VersionCheck, Message, Telegram, HostSoFar, HostState, LinkCall, Receives, fallen, is_completed, is_outside, keeping, risen, silent, telegram_of, then_do, meaning, acting, acting_all, beating, beginning, commanding, ending, following, given, goes_on, hearing, host_step, is_admitted, most_owed, paid, paying, paying_first, posting, received, violating, Input, Report, Stage, SignalState, fits, indicated_report, indicates, signal_behaviour, told as told_of, after_refusal, going_on, watched}
+use Rattle.simulator_recovery.proofs.Words.Controllers.{reading, writing, SciFault, Aspect, InitialisationCompleted, InitialisationRequest, StartInitialisation, VersionAnswer, VersionCheck, Message, Telegram, HostSoFar, HostState, LinkCall, Receives, fallen, is_completed, is_outside, keeping, risen, silent, telegram_of, then_do, meaning, acting, acting_all, beating, beginning, commanding, ending, following, given, goes_on, hearing, host_step, is_admitted, most_owed, paid, paying, paying_first, posting, received, violating, Input, Report, Stage, SignalState, fits, indicated_report, indicates, signal_behaviour, told as told_of}
 use Rattle.simulator_spec.specs.object_host.Meaning.{commanding as by_stage}
 use Rattle.simulator_recovery.proofs.Lemmas.Ground.LinkCounts.{close_closes, send_was_open, tick_was_open}
 use Rattle.simulator_recovery.proofs.Lemmas.Talk.PointCounts.{coming}
-use Rattle.simulator_recovery.proofs.Lemmas.Ground.FoundHosts.{IsCalm, never_refuses, open_calm, step_calm}
 
 -- how many reports a signal owes
 abbrev pub owed : SignalState → ℕ
@@ -242,13 +241,9 @@ module _ (now : ℕ) where
       s : Sent host.link item
       s = sends host.link item
 
-      -- a signal keeps its link where it refuses a report
-      still : (after_refusal signal_behaviour now (answer_to_send now host.link) sent).host ≡ sent
-      still = ap (λ (p : HostSoFar SignalState). p.host) (never_refuses signal_behaviour now refl (answer_to_send now host.link) sent)
-
       by_answer : host.object.owes ≡ true → (c : Bool) → is_completed host.stage ≡ c → (b : Bool) → is_ok (answer_to_send now host.link) ≡ b → Rest
-          → Pays host (if not c || b then then_do (if not c then silent (paid signal_behaviour host) else (if b then record (posting now report host) { host = paid signal_behaviour (posting now report host).host } else then_do (posting now report host) (after_refusal signal_behaviour now (answer_to_send now host.link)))) (paying signal_behaviour now more)
-          else (if not c then silent (paid signal_behaviour host) else (if b then record (posting now report host) { host = paid signal_behaviour (posting now report host).host } else then_do (posting now report host) (after_refusal signal_behaviour now (answer_to_send now host.link)))))
+          → Pays host (if not c || b then then_do (if not c then silent (paid signal_behaviour host) else (if b then record (posting now report host) { host = paid signal_behaviour (posting now report host).host } else posting now report host)) (paying signal_behaviour now more)
+          else (if not c then silent (paid signal_behaviour host) else (if b then record (posting now report host) { host = paid signal_behaviour (posting now report host).host } else posting now report host)))
       by_answer owes false e b f rest = absurd (false≢true (sym e ∙ ap is_completed is))
       by_answer owes true e true f rest =
           let more_paid = rest done is
@@ -256,15 +251,7 @@ module _ (now : ℕ) where
           in let one = ap {B = ℕ} (λ (x : Bool). if x then 1 else 0) owes
           in let later_paid = more_paid.given_is
           in record { given_is = omega (arith, later_paid, accepted, one); taken_is = more_paid.taken_is ∙ s.taken_is; stage_is = more_paid.stage_is; was_open = λ o. was (more_paid.was_open o) }
-      by_answer owes true e false f rest =
-          let g = s.refused f
-          in let same = ap {B = ℕ} (λ (h : HostState SignalState). h.link.given + owed h.object) still
-          in record {
-            given_is = omega (arith, g, same);
-            taken_is = ap (λ (h : HostState SignalState). h.link.taken) still ∙ s.taken_is;
-            stage_is = ap (λ (h : HostState SignalState). h.stage) still;
-            was_open = λ o. was (ap (λ (h : HostState SignalState). is_open h.link.phase) (sym still) ∙ o);
-          }
+      by_answer owes true e false f rest = let g = s.refused f in record { given_is = omega (arith, g); taken_is = s.taken_is; stage_is = refl; was_open = was }
 
       by_owing : (o : Bool) → host.object.owes ≡ o → Rest → Pays host (whole (if o then Some report else None))
       by_owing false e rest = record { given_is = omega arith; taken_is = refl; stage_is = refl; was_open = λ o. o }
@@ -286,7 +273,7 @@ module _ (now : ℕ) where
       was e = (send_was_open now (writing (telegram_of report host)) host.link e).1
 
       first : Bool → Bool → HostSoFar SignalState
-      first c b = if not c then silent (paid signal_behaviour host) else (if b then record (posting now report host) { host = paid signal_behaviour (posting now report host).host } else then_do (posting now report host) (after_refusal signal_behaviour now (answer_to_send now host.link)))
+      first c b = if not c then silent (paid signal_behaviour host) else (if b then record (posting now report host) { host = paid signal_behaviour (posting now report host).host } else posting now report host)
 
       whole : Bool → Bool → HostSoFar SignalState
       whole c b = if not c || b then then_do (first c b) (paying signal_behaviour now more) else first c b
@@ -294,7 +281,7 @@ module _ (now : ℕ) where
       of_report : (c b : Bool) → is_open (whole c b).host.link.phase ≡ true → Rest → is_open host.link.phase ≡ true
       of_report false b e rest = rest (paid signal_behaviour host) e
       of_report true true e rest = was (rest (first true true).host e)
-      of_report true false e rest = was (ap (λ (p : HostSoFar SignalState). is_open p.host.link.phase) (sym (never_refuses signal_behaviour now refl (answer_to_send now host.link) (posting now report host).host)) ∙ e)
+      of_report true false e rest = was e
 
       asked : Option Report → HostSoFar SignalState
       asked o = if goes_on now o host then then_do (paying_first signal_behaviour now o host) (paying signal_behaviour now more) else paying_first signal_behaviour now o host
@@ -314,7 +301,7 @@ module _ (now : ℕ) where
   given_behind (Input.Datagram bytes) link = (receiving now bytes.now link).link.given
   given_behind _ link = link.given
 
-  begins : (host : HostState SignalState) → host.stage ≡ Stage.Completed → is_open (settled now host.link).phase ≡ true → beginning signal_behaviour now host ≡ watched now (record host { link = settled now host.link })
+  begins : (host : HostState SignalState) → host.stage ≡ Stage.Completed → is_open (settled now host.link).phase ≡ true → beginning signal_behaviour now host ≡ record host { link = settled now host.link }
   unfolding beginning fallen
   begins host is opened = rw (is, opened) refl
 
@@ -322,25 +309,25 @@ module _ (now : ℕ) where
   unfolding risen
   rises host is = rw is refl
 
-  ends_as : (host : HostState SignalState) → owed (ending signal_behaviour now host).object ≤ owed host.object
+  ends_as : (host : HostState SignalState) → owed (ending signal_behaviour host).object ≤ owed host.object
   unfolding fallen keeping
   ends_as host = choose (not (is_outside host.stage) && not (is_open host.link.phase))
     where
       lost : HostState SignalState
       lost = record host { stage = Stage.Outside; object = signal_behaviour.after_loss host.object }
 
-      choose : (b : Bool) → owed (keeping signal_behaviour (watched now (if b then lost else host))).object ≤ owed host.object
+      choose : (b : Bool) → owed (keeping signal_behaviour (if b then lost else host)).object ≤ owed host.object
       choose true = omega arith
       choose false = omega arith
 
-  ends_link : (host : HostState SignalState) → (ending signal_behaviour now host).link ≡ host.link
+  ends_link : (host : HostState SignalState) → (ending signal_behaviour host).link ≡ host.link
   unfolding fallen keeping
   ends_link host = choose (not (is_outside host.stage) && not (is_open host.link.phase))
     where
       lost : HostState SignalState
       lost = record host { stage = Stage.Outside; object = signal_behaviour.after_loss host.object }
 
-      choose : (b : Bool) → (keeping signal_behaviour (watched now (if b then lost else host))).link ≡ host.link
+      choose : (b : Bool) → (keeping signal_behaviour (if b then lost else host)).link ≡ host.link
       choose true = refl
       choose false = refl
 
@@ -389,9 +376,8 @@ module _ (now : ℕ) where
 
   -- what it counts after a step
   pub record Counts (input : Input) (host : HostState SignalState) : Type 0 where
-    pub calm : IsCalm signal_behaviour now host
-    pub begun : beginning signal_behaviour now host ≡ watched now (record host { link = settled now host.link })
-    pub heard_open : is_open (given signal_behaviour now input (watched now (record host { link = settled now host.link }))).host.link.phase ≡ true
+    pub begun : beginning signal_behaviour now host ≡ record host { link = settled now host.link }
+    pub heard_open : is_open (given signal_behaviour now input (record host { link = settled now host.link })).host.link.phase ≡ true
     pub given_is : (host_step signal_behaviour now input host).host.link.given + owed (host_step signal_behaviour now input host).host.object
         ≤ given_behind input (settled now host.link) + (owed host.object + coming now input (settled now host.link))
     pub taken_is : (host_step signal_behaviour now input host).host.link.taken ≡ taken_behind input (settled now host.link)
@@ -431,10 +417,10 @@ module _ (now : ℕ) where
   Done input host = then_do (then_do (given signal_behaviour now input host) (paying signal_behaviour now most_owed)) (beating now input)
 
   record CountsAt (input : Input) (host : HostState SignalState) : Type 0 where
-    given_is : (ending signal_behaviour now (Done input host).host).link.given + owed (ending signal_behaviour now (Done input host).host).object ≤ given_behind input host.link + (owed host.object + coming now input host.link)
-    taken_is : (ending signal_behaviour now (Done input host).host).link.taken ≡ taken_behind input host.link
+    given_is : (ending signal_behaviour (Done input host).host).link.given + owed (ending signal_behaviour (Done input host).host).object ≤ given_behind input host.link + (owed host.object + coming now input host.link)
+    taken_is : (ending signal_behaviour (Done input host).host).link.taken ≡ taken_behind input host.link
 
-  counts_at : (input : Input) (host : HostState SignalState) → host.stage ≡ Stage.Completed → is_open (ending signal_behaviour now (Done input host).host).link.phase ≡ true → (is_open (given signal_behaviour now input host).host.link.phase ≡ true) × CountsAt input host
+  counts_at : (input : Input) (host : HostState SignalState) → host.stage ≡ Stage.Completed → is_open (ending signal_behaviour (Done input host).host).link.phase ≡ true → (is_open (given signal_behaviour now input host).host.link.phase ≡ true) × CountsAt input host
   counts_at input host is opened = by_parts (pays most_owed heard) (beats input paid_host)
     where
       heard : HostState SignalState
@@ -472,17 +458,13 @@ module _ (now : ℕ) where
           heard_open = pays_open most_owed heard (b.was_open beaten_open)
 
   pub counts : (input : Input) (host : HostState SignalState) → host.stage ≡ Stage.Completed → is_open (settled now host.link).phase ≡ true → is_open (host_step signal_behaviour now input host).host.link.phase ≡ true → Counts input host
-  unfolding going_on
+  unfolding host_step
   counts input host is opened opened_then =
-      let calm = open_calm signal_behaviour now input host opened_then
-      in let same = begins host is opened
-      in let step_is : host_step signal_behaviour now input host ≡ going_on signal_behaviour now input (watched now (record host { link = settled now host.link })) =
-      step_calm signal_behaviour now input host calm ∙ ap (going_on signal_behaviour now input) same
-      in let at = counts_at input (watched now (record host { link = settled now host.link })) is (ap (λ (p : HostSoFar SignalState). is_open p.host.link.phase) (sym step_is) ∙ opened_then)
+      let same = begins host is opened
+      in let at = counts_at input (record host { link = settled now host.link }) is (ap (λ (h : HostState SignalState). is_open (ending signal_behaviour (Done input h).host).link.phase) (sym same) ∙ opened_then)
       in record {
-        calm = calm;
         begun = same;
         heard_open = at.0;
-        given_is = subst (λ (p : HostSoFar SignalState). p.host.link.given + owed p.host.object ≤ given_behind input (settled now host.link) + (owed host.object + coming now input (settled now host.link))) (sym step_is) at.1.given_is;
-        taken_is = ap (λ (p : HostSoFar SignalState). p.host.link.taken) step_is ∙ at.1.taken_is;
+        given_is = subst (λ (h : HostState SignalState). (ending signal_behaviour (Done input h).host).link.given + owed (ending signal_behaviour (Done input h).host).object ≤ given_behind input (settled now host.link) + (owed host.object + coming now input (settled now host.link))) (sym same) at.1.given_is;
+        taken_is = ap (λ (h : HostState SignalState). (ending signal_behaviour (Done input h).host).link.taken) same ∙ at.1.taken_is;
       }

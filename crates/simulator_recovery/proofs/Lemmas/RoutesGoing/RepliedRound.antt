@@ -1,7 +1,7 @@
 -- A good round in which a signal takes all that the interlocking has given it: the signal reports, and its link accepts the report.
 use Rattle.simulator_recovery.proofs.Words.Basics.{◌≡◌, ◌⊎◌, inl, inr, ℕ, ◌+◌, ◌<◌, ◌≤◌, ◌==◌, nat_lt, Bool, true, false, if◌then◌else◌, List, [], ◌∷◌, ◌++◌, append_assoc, append-nil, length, map, Some, slice_get, refl, sym, ap, subst, ◌∙◌, arith, is_ok, nat_tests, same_Some}
 use Rattle.simulator_recovery.proofs.Words.Links.{Accepts, with_reply, HaveRoom, IsCall, acceptance, answer_to_send, receiving, settled, Each, Call, EndState, Receives, Sends, Sent, end_after, outcome, reading_of, Calls, Event as LinkEvent, IsDelivered, MayCall, MayRun, run, Timely, CallsOn, Links, LinksEvent, happened_to, run_links, run_on, seen, sent_by, Names, Ordered, stops_at_greatest, Step, Ends, called, LinkState, confirmed_items, is_asking, is_open, is_up, calls_at, Role}
-use Rattle.simulator_recovery.proofs.Words.Controllers.{as_call, HostSoFar, LinkCall, Receives as HostReceives, Sends as HostSends, given as given_in, Input, SignalState, signal_behaviour, then_do, watched}
+use Rattle.simulator_recovery.proofs.Words.Controllers.{as_call, HostSoFar, LinkCall, Receives as HostReceives, Sends as HostSends, given as given_in, Input, SignalState, signal_behaviour}
 use Rattle.simulator_recovery.proofs.Words.Interlockings.{SitedTable}
 use Rattle.simulator_recovery.proofs.Words.Stations.{Once, IsStation, Event, controller_after, step_of, names_at, ClockedControllerState, Played, after, host_events}
 use Rattle.simulator_recovery.proofs.Words.Recovery.{all_events_tried, events_tried, GoOnWith, behind_what_comes, indication, LawsBelow}
@@ -10,9 +10,9 @@ use Rattle.simulator_recovery.proofs.Lemmas.Rounds.Clocks.{IsCalm}
 use Rattle.simulator_recovery.proofs.Lemmas.Rounds.LinkRounds.{after_each, events_both, links_both}
 use Rattle.simulator_recovery.proofs.Lemmas.Links.Moments.{exact}
 use Rattle.simulator_recovery.proofs.Lemmas.Talk.PointCounts.{coming}
-use Rattle.simulator_recovery.proofs.Lemmas.Ground.HostCalls.{calm_comes}
+use Rattle.simulator_recovery.proofs.Lemmas.Ground.HostCalls.{datagram_calls}
 use Rattle.simulator_recovery.proofs.Lemmas.RoutesGoing.RepliedDue.{ComesDue, RunsAlone, StandsAlone, alone, delivered_alone, receives_stays, runs_alone, stays_after, each_part, room_behind, room_here}
-use Rattle.simulator_recovery.proofs.Lemmas.RoutesGoing.RepliedCounts.{owed, Counts}
+use Rattle.simulator_recovery.proofs.Lemmas.RoutesGoing.RepliedCounts.{owed}
 use Rattle.simulator_recovery.proofs.Lemmas.RoutesGoing.RepliedReceipt.{IsAtHome, entered_so}
 use Rattle.simulator_recovery.proofs.Lemmas.RoutesGoing.RepliedSteps.{IsStepped, rests, steps}
 use Rattle.simulator_recovery.proofs.Lemmas.RoutesGoing.RepliedThrough.{IsInThrough, may_front, run_both, run_timely, through_front}
@@ -21,7 +21,6 @@ use Rattle.simulator_recovery.proofs.Lemmas.RoutesGoing.RepliedWindow.{AreBoth, 
 use Rattle.simulator_recovery.proofs.Lemmas.Silence.Shown.{counted_taken}
 use Rattle.simulator_recovery.proofs.Lemmas.Links.SignalReplies.{reports_at_once}
 use Rattle.simulator_recovery.proofs.Lemmas.Silence.Spent.{settled_taken}
-use Rattle.simulator_recovery.proofs.Lemmas.Ground.FoundHosts.{found_calm}
 
 own_events : (link : ℕ) (calls : List Call) (network : Links) → run_on link (map (λ call. CallsOn link Role.Server call) calls) network ≡ calls_at Role.Server calls
 own_events link [] network = refl
@@ -490,12 +489,8 @@ module _ (laws : LawsBelow) (sited : SitedTable) (station : IsStation sited.site
             all_here : number ≤ (receiving now bytes.now link).link.taken
             all_here = let t = taken_then (Input.Datagram bytes) so in let y = (tally_here (Input.Datagram bytes) (opened_then (Input.Datagram bytes) so)).taken_is in let z = h.counts.taken_is in let many = taken_behind in omega (arith, t, y, z, many)
 
-            counts_here : Counts now (Input.Datagram bytes) c.host
-            counts_here = step_counts c taken m1.given_counts m1.counts_so (m1.completed many_then) opened (Input.Datagram bytes) (opened_then (Input.Datagram bytes) so)
-
-            begun : behind_what_comes now (Input.Datagram bytes) c.host ≡ given_in signal_behaviour now (Input.Datagram bytes) (watched now (record c.host { link = link }))
-            begun = ap (λ (first : HostSoFar SignalState). then_do first (given_in signal_behaviour now (Input.Datagram bytes))) (found_calm signal_behaviour now c.host counts_here.calm)
-                ∙ ap (given_in signal_behaviour now (Input.Datagram bytes)) counts_here.begun
+            begun : behind_what_comes now (Input.Datagram bytes) c.host ≡ given_in signal_behaviour now (Input.Datagram bytes) (record c.host { link = link })
+            begun = ap (given_in signal_behaviour now (Input.Datagram bytes)) (step_counts c taken m1.given_counts m1.counts_so (m1.completed many_then) opened (Input.Datagram bytes) (opened_then (Input.Datagram bytes) so)).begun
 
             told_some : (behind_what_comes now (Input.Datagram bytes) c.host).told ≡ [] → ⊥
             told_some none = some (h.hears.told (sym (ap (λ (p : HostSoFar SignalState). p.told) begun) ∙ none))
@@ -507,7 +502,7 @@ module _ (laws : LawsBelow) (sited : SitedTable) (station : IsStation sited.site
             came_open = ap (λ (x : LinkState). is_open x.phase) link_there ∙ h.comes_open
 
             shape : (others : List LinkCall) × ((step_of signal_behaviour (Input.Datagram bytes) c).calls ≡ HostReceives bytes.now ∷ others)
-            shape = calm_comes signal_behaviour now bytes c.host counts_here.calm
+            shape = let d = datagram_calls signal_behaviour now bytes c.host in (d.0, d.1.1)
 
             tail_of : List LinkCall → List LinkEvent
             tail_of others = calls_at Role.Server (map (as_call other) others) ++ run_on place (all_events_tried f.rest (after mid_world f.one)) end_links

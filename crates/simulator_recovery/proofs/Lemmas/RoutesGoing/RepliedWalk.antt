@@ -1,7 +1,7 @@
 -- A signal through a list of events of its station: how many reports it gives by them.
 use Rattle.simulator_recovery.proofs.Words.Basics.{◌≡◌, ◌⊎◌, ℕ, ◌+◌, ◌^◌, ◌<◌, ◌≤◌, nat_le, Bool, true, false, List, [], ◌∷◌, ◌++◌, append_assoc, append-nil, length, Option, Some, None, slice_get, refl, sym, ap, subst, ◌∙◌, arith, leb-true, leb-false, false≢true, same_Some}
 use Rattle.simulator_recovery.proofs.Words.Links.{receiving, settled, Each, reading_of, Event as LinkEvent, run, Timely, Links, LinksEvent, events_on, happened_to, run_links, run_on, seen, AreNames, Names, Ordered, stops_at_greatest, Ends, IsCounted, IsFew, LinkState, is_open, is_up, Role}
-use Rattle.simulator_recovery.proofs.Words.Controllers.{HostState, given as given_in, Input, Stage, SignalState, signal_behaviour, watched}
+use Rattle.simulator_recovery.proofs.Words.Controllers.{HostState, given as given_in, Input, Stage, SignalState, signal_behaviour}
 use Rattle.simulator_recovery.proofs.Words.Interlockings.{SitedTable}
 use Rattle.simulator_recovery.proofs.Words.Stations.{Once, IsStation, Event, Refused, controller_after, step_of, happens, names_at, links, ClockedControllerState, Played, after, refusal_of, world_where, events_of, IsEndOfServer}
 use Rattle.simulator_recovery.proofs.Words.Recovery.{HostHasActedOn, HasCounted, HostCountsByStage, all_events_tried, events_tried, events_where, LawsBelow}
@@ -159,7 +159,7 @@ module _ (c : ClockedControllerState SignalState) (taken given : ℕ) (has : Has
   link = settled (reading_of c.clock) c.host.link
 
   abbrev pub found : HostState SignalState
-  found = watched (reading_of c.clock) (record c.host { link = settled (reading_of c.clock) c.host.link })
+  found = record c.host { link = settled (reading_of c.clock) c.host.link }
 
   abbrev IsOpenBehind : Input → Type 0
   IsOpenBehind input = is_open (step_of signal_behaviour input c).host.link.phase ≡ true
@@ -172,7 +172,7 @@ module _ (c : ClockedControllerState SignalState) (taken given : ℕ) (has : Has
 
   -- a datagram comes
   pub record Heard (bytes : List ℕ) : Type 0 where
-    pub hears : counted.Hears (reading_of c.clock) bytes (watched (reading_of c.clock) (record c.host { link = settled (reading_of c.clock) c.host.link }))
+    pub hears : counted.Hears (reading_of c.clock) bytes (record c.host { link = settled (reading_of c.clock) c.host.link })
     pub comes_open : is_open (receiving (reading_of c.clock) bytes (settled (reading_of c.clock) c.host.link)).link.phase ≡ true
     pub counts : HasCounted (taken + length (receiving (reading_of c.clock) bytes (settled (reading_of c.clock) c.host.link)).items) given (receiving (reading_of c.clock) bytes (settled (reading_of c.clock) c.host.link)).link
     pub up : ((receiving (reading_of c.clock) bytes (settled (reading_of c.clock) c.host.link)).items ≡ []) ⊎ (is_up (receiving (reading_of c.clock) bytes (settled (reading_of c.clock) c.host.link)).link.phase ≡ true)

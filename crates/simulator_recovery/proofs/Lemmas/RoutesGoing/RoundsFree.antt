@@ -1,9 +1,9 @@
 -- After good rounds no cancelled route waits that lets itself be freed, or whose release is over; and after 12000 of them its time is over.
 use Rattle.simulator_recovery.proofs.Words.Basics.{◌≡◌, ℕ, ◌+◌, ◌-◌, ◌*◌, ◌^◌, ◌≤◌, min, true, List, ◌∷◌, length, Some, slice_get, refl, sym, ap, subst, ◌∙◌, arith}
 use Rattle.simulator_recovery.proofs.Words.Links.{Each, reading_of}
-use Rattle.simulator_recovery.proofs.Words.Interlockings.{HaveCome, IsRouteOf, RouteState, Row, SitedTable, Phase}
+use Rattle.simulator_recovery.proofs.Words.Interlockings.{IsRouteOf, RouteState, Row, SitedTable, Phase}
 use Rattle.simulator_recovery.proofs.Words.Stations.{Once, IsStation, Event, Flowing, round, IsReached}
-use Rattle.simulator_recovery.proofs.Words.Recovery.{FreeLaw, HasTime, IsWork, LawsBelow, all_tried, approach_time_rounds, good_rounds, report_rounds}
+use Rattle.simulator_recovery.proofs.Words.Recovery.{FreeLaw, HasTime, IsWork, LawsBelow, all_tried, approach_time_rounds, good_rounds}
 use Rattle.simulator_recovery.proofs.Lemmas.Links.Ready.{Last, each_front, last_of}
 use Rattle.simulator_recovery.proofs.Lemmas.Lamps.StopComes.{last_round}
 use Rattle.simulator_recovery.proofs.Lemmas.RoutesGoing.AuthorityRoundFrees.{MayGo, round_frees}
@@ -56,13 +56,3 @@ pub approach_over : LawsBelow → (more : List (List Event)) (start : Flowing) �
     → HasTime (length more) start.state.run → approach_time_rounds ≤ length more → (at : ℕ) → at ≤ reading_of start.state.run.interlocking.clock → min (at + 120000) (2 ^ 64 - 1) ≤ reading_of (good_rounds more start).state.run.interlocking.clock
 approach_over laws more start once station reached works can far at by = subst (λ (c : ℕ). min (at + 120000) (2 ^ 64 - 1) ≤ reading_of c) (sym (ap second (take_their_time laws more start once station reached works can)))
     (time_over at start.state.run.interlocking.clock (length more) by far)
-
--- all reports have come
-reports_over : (at clock rounds : ℕ) → at ≤ reading_of clock → 180 ≤ rounds → min (at + 1800) (2 ^ 64 - 1) ≤ reading_of (clock + 10000 * rounds)
-reports_over at clock rounds before long = omega (arith, before, long)
-
--- of a reading at which they began
-pub reports_come : LawsBelow → (more : List (List Event)) (start : Flowing) → Once start.state.sited.site → IsStation start.state.sited.site → IsReached start.state.sited.site start.state.sited.table start.state.run → Each (Each IsWork) more
-    → HasTime (length more) start.state.run → report_rounds ≤ length more → (at : ℕ) → at ≤ reading_of start.state.run.interlocking.clock → HaveCome at (reading_of (good_rounds more start).state.run.interlocking.clock)
-reports_come laws more start once station reached works can far at by = subst (λ (c : ℕ). min (at + 1800) (2 ^ 64 - 1) ≤ reading_of c) (sym (ap second (take_their_time laws more start once station reached works can)))
-    (reports_over at start.state.run.interlocking.clock (length more) by far)

@@ -1,9 +1,9 @@
 -- What is kept of one route by the parts of a step of an interlocking.
 use Rattle.simulator_recovery.proofs.Words.Basics.{◌≡◌, ◌⊎◌, inl, inr, ℕ, suc, ◌==◌, ◌&&◌, ◌||◌, not, Bool, true, false, if◌then◌else◌, List, length, Option, Some, None, slice_get, refl, sym, ap, subst, ◌∙◌, false≢true, same_Some}
 use Rattle.simulator_recovery.proofs.Words.Links.{reading, Key}
-use Rattle.simulator_recovery.proofs.Words.Interlockings.{begun, hearing, commanded_by, is_ended, obeyed, refusal, refused_where, release_refusal, released_at, set_anew, authorised, come_to, count, ended, ending_authority, freed, freed_by_cancel, freed_by_passage, freeing_by_cancel, freeing_by_passage, freeing_next, frees_cancelled, frees_next, is_move_due, is_proceed_due, is_proceeding, is_stop_due, is_waiting, is_withdrawn, moved, moving, moving_one, one_freed, proceeding, ruled, withdrawing, withdrawn, PassageState, after_look, IxlState, RouteState, changed, Commands, Datagram, Input, Tick, addressed, detector_hearing, given, known_point_hearing, known_signal_hearing, looking, looking_by, looks, node_hearing, occupied_heard, route_looks, stepped, ticked, watching, Detector, Node, Point, Signal, StepSoFar, detector_after, noted, with_detector, with_one, with_route, Row, Table, is_at_known_stop, is_holding, is_set, place_in, was_authorised, Command, Refusal, Phase, giving_move, as_found, noting}
+use Rattle.simulator_recovery.proofs.Words.Interlockings.{begun, hearing, commanded_by, is_ended, obeyed, refusal, refused_where, release_refusal, released_at, set_anew, authorised, come_to, count, ended, ending_authority, freed, freed_by_cancel, freed_by_passage, freeing_by_cancel, freeing_by_passage, freeing_next, frees_cancelled, frees_next, is_move_due, is_proceed_due, is_proceeding, is_stop_due, is_waiting, is_withdrawn, moved, moving, moving_one, one_freed, proceeding, ruled, withdrawing, withdrawn, PassageState, after_look, IxlState, RouteState, changed, Commands, Datagram, Input, Tick, addressed, all_clocked, detector_hearing, given, known_point_hearing, known_signal_hearing, looking, looking_by, looks, node_hearing, occupied_heard, route_looks, stepped, ticked, watching, Detector, Node, Point, Signal, StepSoFar, detector_after, noted, over, with_detector, with_one, with_route, Row, Table, is_at_known_stop, is_holding, is_set, place_in, was_authorised, Command, Refusal, Phase, giving_move}
 use Rattle.simulator_recovery.proofs.Words.Stations.{RouteId}
-use Rattle.simulator_recovery.proofs.Lemmas.Ground.DueShapes.{along_keeps, one_keeps, over_keeps, passage_keeps, route_keeps, where_keeps, found_in, seen_in, seen_keeps}
+use Rattle.simulator_recovery.proofs.Lemmas.Ground.DueShapes.{along_keeps, one_keeps, over_keeps, passage_keeps, route_keeps, where_keeps}
 use Rattle.simulator_recovery.proofs.Lemmas.Ground.DueTests.{first_true}
 use Rattle.simulator_recovery.proofs.Lemmas.Ground.IxlClients.{changed_at}
 use Rattle.simulator_recovery.proofs.Lemmas.Ground.MovedAtOnce.{moved_keeps}
@@ -13,7 +13,6 @@ use Rattle.simulator_recovery.proofs.Lemmas.RoutesComing.DueCourse.{stopped_leav
 use Rattle.simulator_recovery.proofs.Lemmas.RoutesComing.DueKnown.{ticks_bring_nothing}
 use Rattle.simulator_recovery.proofs.Lemmas.RoutesComing.NothingDueMoves.{move_leaves}
 use Rattle.simulator_recovery.proofs.Lemmas.RoutesComing.NothingDueProceeds.{aspect_leaves}
-use Rattle.simulator_recovery.proofs.Lemmas.Ground.FoundIxl.{found_is, found_routes}
 
 -- What each change of a route in a step keeps of it, where the commands that are accepted are such.
 pub record TurnsKeep (now number : ℕ) (Obeys : Command → Type 0) (F : RouteState → Type 0) : Type 0 where
@@ -23,7 +22,6 @@ pub record TurnsKeep (now number : ℕ) (Obeys : Command → Type 0) (F : RouteS
   pub freed : (route : RouteState) → F route → F (freed route)
   pub authorised : (table : Table) (ixl : IxlState) (row : Row) (route : RouteState) → is_waiting route.phase ≡ true → F route → F (authorised table ixl row route)
   pub watched : (route : RouteState) (approached : Bool) → F route → F (record route { approached = approached })
-  pub noted : (route : RouteState) (since : Option ℕ) → F route → F (record route { clear_since = since })
   pub looked : (route : RouteState) (passage : PassageState) → F route → F (record route { passage = passage })
   pub sets : (asked : RouteId) (route : RouteState) → Obeys (Command.Request asked) → number ≡ asked.0 → F route → F (set_anew route)
   pub cancelled : (route : RouteState) → F route → F (record route { cancelled = true })
@@ -134,10 +132,6 @@ module _ (now : ℕ) (table : Table) (number : ℕ) (Obeys : Command → Type 0)
   unfolding watching
   watching_held place part is = route_keeps Held table place _ part (λ row one there here. where_keeps Held (is_proceeding one.phase || is_withdrawn one.phase) part _ (λ due. turned place _ part one here (keeps.watched one _) is) is) is
 
-  noting_held : (place : ℕ) (part : StepSoFar) → Held part → Held (noting now table place part)
-  unfolding noting
-  noting_held place part is = route_keeps Held table place _ part (λ row one there here. where_keeps Held (table.is_strict && was_authorised one.phase) part _ (λ due. turned place _ part one here (keeps.noted one _) is) is) is
-
   looks_so : (section : ℕ) (occupied : Bool) (row : Row) (route : RouteState) → F route → F (route_looks section occupied row route)
   looks_so section occupied row route so = by_place (place_in section row.sections) refl
     where
@@ -189,17 +183,18 @@ module _ (now : ℕ) (table : Table) (number : ℕ) (Obeys : Command → Type 0)
       moved_keeps Held now table (λ point side q available all. one_keeps Held (slice_get q.ixl.known_points point) _ q (λ known e. all) all)
       (refusal now table command part.ixl) command part refl (commanded_held (refusal now table command part.ixl) command part refl (obeys command refl) is)
 
-  found_held : (part : StepSoFar) → Held part → Held (found_in now part)
-  found_held part is = subst Among (sym (found_routes now part)) is
+  clocked_held : (part : StepSoFar) → Held part → Held (record part { ixl = all_clocked now part.ixl })
+  unfolding all_clocked
+  clocked_held part is = is
 
   ticked_held : (input : Input) (part : StepSoFar) → Held part → Held (ticked now input part)
   ticked_held input part is = subst Among (sym (ticks_bring_nothing now input part).routes) is
 
   -- after the input, and the whole step
-  pub behind_input_held : (input : Input) (heard : StepSoFar) → Held heard → Held (ticked now input (ruled now table (seen_in now table heard)))
-  behind_input_held input heard is = ticked_held input (ruled now table (seen_in now table heard)) (ruled_held (seen_in now table heard) (seen_keeps Held now table watching_held noting_held heard is))
+  pub behind_input_held : (input : Input) (heard : StepSoFar) → Held heard → Held (ticked now input (ruled now table (over (watching table) (count table) heard)))
+  behind_input_held input heard is = ticked_held input (ruled now table (over (watching table) (count table) heard)) (ruled_held (over (watching table) (count table) heard) (over_keeps Held (watching table) watching_held (count table) heard is))
 
-  pub step_held : (key : Key) (input : Input) (part : StepSoFar) → ((command : Command) → input ≡ Commands command → refusal now table command (as_found now part.ixl) ≡ None → Obeys command) → Held part → Held (stepped now table key input part)
+  pub step_held : (key : Key) (input : Input) (part : StepSoFar) → ((command : Command) → input ≡ Commands command → refusal now table command (all_clocked now part.ixl) ≡ None → Obeys command) → Held part → Held (stepped now table key input part)
   unfolding stepped
-  step_held key input part obeys is = behind_input_held input (given now table key input (found_in now part))
-      (given_held key input (found_in now part) (λ command comes none. obeys command comes (ap (refusal now table command) (sym (found_is now part)) ∙ none)) (found_held part is))
+  step_held key input part obeys is = behind_input_held input (given now table key input (record part { ixl = all_clocked now part.ixl }))
+      (given_held key input (record part { ixl = all_clocked now part.ixl }) obeys (clocked_held part is))

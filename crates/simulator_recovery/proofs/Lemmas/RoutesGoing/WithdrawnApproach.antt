@@ -1,10 +1,10 @@
 -- So long after its cancel a route is free, also where its approach counted, unless a train came.
 use Rattle.simulator_recovery.proofs.Words.Basics.{◌≡◌, inl, inr, ℕ, Bool, true, false, Some, slice_get, refl, sym, ap, subst, ◌∙◌, false≢true, suc, ◌+◌, ◌*◌, ◌≤◌, List, [], ◌∷◌, ◌++◌, append_assoc, length, arith, length-append, same_Some}
 use Rattle.simulator_recovery.proofs.Words.Links.{reading_of, Each}
-use Rattle.simulator_recovery.proofs.Words.Interlockings.{At, LetsGo, is_proceeding, is_waiting, RouteState, Commands, Row, Table, is_set, Command, Phase, IsTableOf, AllClear, HaveCome, IsRouteOf, IxlState, SitedTable}
+use Rattle.simulator_recovery.proofs.Words.Interlockings.{At, LetsGo, is_proceeding, is_waiting, RouteState, Commands, Row, Table, is_set, Command, Phase, IsTableOf, AllClear, IsRouteOf, IxlState, SitedTable}
 use Rattle.simulator_recovery.proofs.Words.Stations.{Site, RouteId, Event, Answer, answered, happens, WorldState, IsReached, Once, IsStation, Flowing, round}
-use Rattle.simulator_recovery.proofs.Words.Recovery.{AreLongClear, FreeLaw, IsUnseen, authority_rounds, free_rounds, report_rounds, StayBelowOn, AcceptsCancel, and_cancel, as_cancel_comes, StaysBelowLimit, Proceeds, ready_rounds, HasTime, IsWork, all_tried, clocks_of, good_rounds, rounds_later, approach_rounds, approach_time_rounds, IsNotSetAnew, LawsBelow}
-use Rattle.simulator_recovery.proofs.Lemmas.RoutesGoing.AuthorityFree.{ended_behind_cancel, free_behind_cancel, kept_behind_cancel}
+use Rattle.simulator_recovery.proofs.Words.Recovery.{FreeLaw, IsUnseen, authority_rounds, AcceptsCancel, and_cancel, as_cancel_comes, StaysBelowLimit, Proceeds, ready_rounds, HasTime, IsWork, all_tried, clocks_of, good_rounds, rounds_later, approach_rounds, approach_time_rounds, IsNotSetAnew, LawsBelow}
+use Rattle.simulator_recovery.proofs.Lemmas.RoutesGoing.AuthorityFree.{kept_behind_cancel, ended_behind_cancel}
 use Rattle.simulator_recovery.proofs.Lemmas.Lamps.Cancelled.{RouteKeeps, OfRoute}
 use Rattle.simulator_recovery.proofs.Lemmas.Rounds.Clocks.{calm_still}
 use Rattle.simulator_recovery.proofs.Lemmas.RoutesComing.NothingDueFrees.{nothing_ended_waits}
@@ -15,9 +15,8 @@ use Rattle.simulator_recovery.proofs.Lemmas.RoutesGoing.BetweenSignals.{anew_two
 use Rattle.simulator_recovery.proofs.Lemmas.Points.MovesAnswered.{rounds_both}
 use Rattle.simulator_recovery.proofs.Lemmas.Links.Ready.{fewer_time}
 use Rattle.simulator_recovery.proofs.Lemmas.Rounds.Rounds.{IsAt, rounds_reached, take_their_time}
-use Rattle.simulator_recovery.proofs.Lemmas.Windows.WindowsAlone.{below_two as below_front}
 use Rattle.simulator_recovery.proofs.Lemmas.Windows.WindowsSpoken.{each_two}
-use Rattle.simulator_recovery.proofs.Lemmas.RoutesGoing.RoundsFree.{approach_over, reports_come, rounds_free}
+use Rattle.simulator_recovery.proofs.Lemmas.RoutesGoing.RoundsFree.{approach_over, rounds_free}
 use Rattle.simulator_recovery.proofs.Lemmas.RoutesGoing.WithdrawnClocks.{endings_passed}
 
 -- ---- a cancelled route whose authority has ended: it stays so while it is set, and is free in the step of its cancel where it lets itself go
@@ -122,7 +121,7 @@ time_still a b (clock ∷ clocks) each = let one = each.0 in (omega (arith, one)
 
 module _ (frees : FreeLaw) (times : LawsBelow) (more : List (List Event)) (start : Flowing) (number : ℕ) (row : Row) (once : Once start.state.sited.site) (station : IsStation start.state.sited.site)
     (reached : IsReached start.state.sited.site start.state.sited.table start.state.run) (works : Each (Each IsWork) more) (apart : IsNotSetAnew number more start) (can : HasTime (length more) start.state.run)
-    (there : slice_get start.state.sited.table.rows number ≡ Some row) (ended : EndedIn (reading_of start.state.run.interlocking.clock) number start.state.run.interlocking.ixl) where
+    (there : slice_get start.state.sited.table.rows number ≡ Some row) (far : approach_time_rounds ≤ length more) (ended : EndedIn (reading_of start.state.run.interlocking.clock) number start.state.run.interlocking.ixl) where
   abbrev sited_so : SitedTable
   sited_so = start.state.sited
 
@@ -135,45 +134,32 @@ module _ (frees : FreeLaw) (times : LawsBelow) (more : List (List Event)) (start
   ended_end : EndedIn last number end.state.run.interlocking.ixl
   ended_end = route_kept times sited_so number (StaysEnded (By last)) (ended_keeps (By last)) more start works apart (record { same = refl; reached = reached }) ended
 
-  -- all reports have come of the end of its authority
-  pub ended_come : report_rounds ≤ length more → (state : RouteState) (clock done : ℕ) → slice_get (good_rounds more start).state.run.interlocking.ixl.routes number ≡ Some state → state.phase ≡ Phase.Ended clock done
-      → HaveCome clock (reading_of (good_rounds more start).state.run.interlocking.clock)
-  ended_come far state clock done is ends = reports_come times more start once station reached works can far clock (subst (HasEnded (By last)) ends (ended_end state is (ap is_set ends)).0)
+  frees_it : (state : RouteState) (clock done : ℕ) → slice_get end.state.run.interlocking.ixl.routes number ≡ Some state → IsUnseen row state → AllClear sited_so.table end.state.run.interlocking.ixl row.sections → state.phase ≡ Phase.Ended clock done → clock ≤ last
+      → state.cancelled ≡ true → ⊥
+  frees_it state clock done is unseen clear ends by cancelled = rounds_free frees times more start reached works number row state clock done (there, is) cancelled ends
+      (inl (record { unseen = unseen; clear = clear; approach = inr (approach_over times more start once station reached works can far clock by) })) (omega (arith, far))
 
-  module _ (far : approach_time_rounds ≤ length more) where
-    frees_it : (state : RouteState) (clock done : ℕ) → slice_get end.state.run.interlocking.ixl.routes number ≡ Some state → IsUnseen row state → AllClear sited_so.table end.state.run.interlocking.ixl row.sections
-        → AreLongClear (reading_of end.state.run.interlocking.clock) sited_so.table state → state.phase ≡ Phase.Ended clock done → clock ≤ last → state.cancelled ≡ true → ⊥
-    frees_it state clock done is unseen clear long ends by cancelled = rounds_free frees times more start reached works number row state clock done (there, is) cancelled ends
-        (inl (record {
-          unseen = unseen;
-          clear = clear;
-          approach = inr (approach_over times more start once station reached works can far clock by);
-          fresh = λ strict. let noted = long strict in record { ended = ended_come (omega (arith, far)) state clock done is ends; since = noted.0; noted = noted.1; clear = noted.2 };
-        })) (omega (arith, far))
+  pub free_later : (state : RouteState) → slice_get (good_rounds more start).state.run.interlocking.ixl.routes number ≡ Some state → IsUnseen row state → AllClear start.state.sited.table (good_rounds more start).state.run.interlocking.ixl row.sections → is_set state.phase ≡ false
+  free_later state is unseen clear = by_set (is_set state.phase) refl
+    where
+      by_phase : (p : Phase) → state.phase ≡ p → HasEnded (By last) state.phase → state.cancelled ≡ true → ⊥
+      by_phase (Phase.Ended clock done) e by cancelled = frees_it state clock done is unseen clear e (subst (HasEnded (By last)) e by) cancelled
+      by_phase Phase.Free e by cancelled = subst (HasEnded (By last)) e by
+      by_phase Phase.Waiting e by cancelled = subst (HasEnded (By last)) e by
+      by_phase Phase.Proceeding e by cancelled = subst (HasEnded (By last)) e by
+      by_phase Phase.Withdrawn e by cancelled = subst (HasEnded (By last)) e by
 
-    pub free_later : (state : RouteState) → slice_get (good_rounds more start).state.run.interlocking.ixl.routes number ≡ Some state → IsUnseen row state → AllClear start.state.sited.table (good_rounds more start).state.run.interlocking.ixl row.sections
-        → AreLongClear (reading_of (good_rounds more start).state.run.interlocking.clock) start.state.sited.table state → is_set state.phase ≡ false
-    free_later state is unseen clear long = by_set (is_set state.phase) refl
-      where
-        by_phase : (p : Phase) → state.phase ≡ p → HasEnded (By last) state.phase → state.cancelled ≡ true → ⊥
-        by_phase (Phase.Ended clock done) e by cancelled = frees_it state clock done is unseen clear long e (subst (HasEnded (By last)) e by) cancelled
-        by_phase Phase.Free e by cancelled = subst (HasEnded (By last)) e by
-        by_phase Phase.Waiting e by cancelled = subst (HasEnded (By last)) e by
-        by_phase Phase.Proceeding e by cancelled = subst (HasEnded (By last)) e by
-        by_phase Phase.Withdrawn e by cancelled = subst (HasEnded (By last)) e by
-
-        by_set : (b : Bool) → is_set state.phase ≡ b → is_set state.phase ≡ false
-        by_set false e = e
-        by_set true e = let so = ended_end state is e in absurd (by_phase state.phase refl so.0 so.1)
+      by_set : (b : Bool) → is_set state.phase ≡ b → is_set state.phase ≡ false
+      by_set false e = e
+      by_set true e = let so = ended_end state is e in absurd (by_phase state.phase refl so.0 so.1)
 
 pub ended_free_later : FreeLaw → LawsBelow → (more : List (List Event)) (flowing : Flowing) (number : ℕ) (row : Row) (route : RouteState) (clock freed : ℕ) → Once flowing.state.sited.site → IsStation flowing.state.sited.site
     → IsReached flowing.state.sited.site flowing.state.sited.table flowing.state.run → Each (Each IsWork) more → IsNotSetAnew number more flowing → HasTime (length more) flowing.state.run → approach_time_rounds ≤ length more
     → IsRouteOf flowing.state.sited.table flowing.state.run.interlocking.ixl number row route → route.cancelled ≡ true → route.phase ≡ Phase.Ended clock freed
-    → (state : RouteState) → slice_get (good_rounds more flowing).state.run.interlocking.ixl.routes number ≡ Some state → IsUnseen row state → AllClear flowing.state.sited.table (good_rounds more flowing).state.run.interlocking.ixl row.sections
-    → AreLongClear (reading_of (good_rounds more flowing).state.run.interlocking.clock) flowing.state.sited.table state → is_set state.phase ≡ false
-ended_free_later frees times more flowing number row route clock freed once station reached works apart can far is cancelled ended = free_later frees times more flowing number row once station reached works apart can is.0
+    → (state : RouteState) → slice_get (good_rounds more flowing).state.run.interlocking.ixl.routes number ≡ Some state → IsUnseen row state → AllClear flowing.state.sited.table (good_rounds more flowing).state.run.interlocking.ixl row.sections → is_set state.phase ≡ false
+ended_free_later frees times more flowing number row route clock freed once station reached works apart can far is cancelled ended = free_later frees times more flowing number row once station reached works apart can is.0 far
     (λ state e set. let same = same_Some route state (sym is.1 ∙ e) in subst (λ (r : RouteState). HasEnded (By (reading_of flowing.state.run.interlocking.clock)) r.phase × (r.cancelled ≡ true)) same
-    (subst (HasEnded (By (reading_of flowing.state.run.interlocking.clock))) (sym ended) (endings_passed flowing.state.sited.site flowing.state.sited.table flowing.state.run reached number route is.1 clock freed ended), cancelled)) far
+    (subst (HasEnded (By (reading_of flowing.state.run.interlocking.clock))) (sym ended) (endings_passed flowing.state.sited.site flowing.state.sited.table flowing.state.run reached number route is.1 clock freed ended), cancelled))
 
 -- ---- so long after the cancel
 
@@ -181,7 +167,7 @@ module _ (frees : FreeLaw) (laws : LawsBelow) (between : List Event) (later_roun
     (station : IsStation flowing.state.sited.site) (is_table : IsTableOf flowing.state.sited.site flowing.state.sited.table) (reached : IsReached flowing.state.sited.site flowing.state.sited.table flowing.state.run) (work : Each IsWork between)
     (works : Each (Each IsWork) later_rounds) (before_works : Each IsWork before) (all_works : Each (Each IsWork) (some ++ more)) (all_apart : IsNotSetAnew route.0 (some ++ more) (good_rounds (between ∷ (later_rounds ++ and_cancel route before ∷ [])) flowing))
     (can : HasTime (suc (length (later_rounds ++ and_cancel route before ∷ (some ++ more)))) flowing.state.run) (there : slice_get flowing.state.sited.table.rows route.0 ≡ Some row) (long : ready_rounds ≤ suc (suc (length later_rounds)))
-    (enough : length some ≡ authority_rounds)
+    (enough : length some ≡ authority_rounds) (far : approach_rounds ≤ length (some ++ more))
     (below : StaysBelowLimit flowing.state.sited.site row.entry (later_rounds ++ and_cancel route before ∷ some) (all_tried between (round flowing)))
     (proceeds : At (as_cancel_comes (between ∷ later_rounds) before flowing).state.run.interlocking.ixl.routes route.0 Proceeds) (accepted : AcceptsCancel route (as_cancel_comes (between ∷ later_rounds) before flowing).state) where
   abbrev sited : SitedTable
@@ -238,6 +224,9 @@ module _ (frees : FreeLaw) (laws : LawsBelow) (between : List Event) (later_roun
   can_two : HasTime (length more) two.state.run
   can_two = subst (Each (λ clock. clock + 10000 * length more ≤ 9000000000000000)) (sym clocks_two) (time_still (length (between ∷ front)) (length more) (clocks_of flowing.state.run) can_both)
 
+  far_more : approach_time_rounds ≤ length more
+  far_more = let count = count_some in omega (arith, far, enough, count)
+
   -- ---- the route
 
   ended_two : EndedIn (reading_of two.state.run.interlocking.clock) route.0 two.state.run.interlocking.ixl
@@ -245,71 +234,9 @@ module _ (frees : FreeLaw) (laws : LawsBelow) (between : List Event) (later_roun
       let ended = ended_behind_cancel frees laws between later_rounds before some flowing route row once station is_table reached work works before_works some_works.0 some_apart.0 can_front there long (omega (arith, enough)) below proceeds accepted state is set
       in (subst (HasEnded (By (reading_of two.state.run.interlocking.clock))) (sym ended.3) (endings_passed sited.site sited.table two.state.run at_two.reached route.0 state is ended.1 ended.2 ended.3), ended.0)
 
-  -- what a law of these rounds says holds of them after the first two
-  once_two : Once two.state.sited.site
-  once_two = subst (λ (s : SitedTable). Once s.site) (sym at_two.same) once
-
-  station_two : IsStation two.state.sited.site
-  station_two = subst (λ (s : SitedTable). IsStation s.site) (sym at_two.same) station
-
-  reached_two : IsReached two.state.sited.site two.state.sited.table two.state.run
-  reached_two = subst (λ (s : SitedTable). IsReached s.site s.table two.state.run) (sym at_two.same) at_two.reached
-
-  apart_two : IsNotSetAnew route.0 more two
-  apart_two = subst (IsNotSetAnew route.0 more) (sym two_is) some_apart.1
-
-  there_two : slice_get two.state.sited.table.rows route.0 ≡ Some row
-  there_two = subst (λ (s : SitedTable). slice_get s.table.rows route.0 ≡ Some row) (sym at_two.same) there
-
-  -- all reports have come of the end of its authority
-  pub ended_come_behind : report_rounds ≤ length more → (state : RouteState) (clock done : ℕ) → slice_get (good_rounds (between ∷ (later_rounds ++ and_cancel route before ∷ (some ++ more))) flowing).state.run.interlocking.ixl.routes route.0 ≡ Some state
-      → state.phase ≡ Phase.Ended clock done → HaveCome clock (reading_of (good_rounds (between ∷ (later_rounds ++ and_cancel route before ∷ (some ++ more))) flowing).state.run.interlocking.clock)
-  ended_come_behind far state clock done is ends = subst (λ (f : Flowing). HaveCome clock (reading_of f.state.run.interlocking.clock)) (sym behind_is)
-      (ended_come frees times more two route.0 row once_two station_two reached_two some_works.1 apart_two can_two there_two ended_two far state clock done (ap (λ (f : Flowing). slice_get f.state.run.interlocking.ixl.routes route.0) (sym behind_is) ∙ is) ends)
-
-  pub free_behind_approach : approach_rounds ≤ length (some ++ more)
-      → (state : RouteState) → slice_get (good_rounds (between ∷ (later_rounds ++ and_cancel route before ∷ (some ++ more))) flowing).state.run.interlocking.ixl.routes route.0 ≡ Some state → IsUnseen row state
-      → AllClear flowing.state.sited.table (good_rounds (between ∷ (later_rounds ++ and_cancel route before ∷ (some ++ more))) flowing).state.run.interlocking.ixl row.sections
-      → AreLongClear (reading_of (good_rounds (between ∷ (later_rounds ++ and_cancel route before ∷ (some ++ more))) flowing).state.run.interlocking.clock) flowing.state.sited.table state → is_set state.phase ≡ false
-  free_behind_approach far state is unseen clear long_clear = free_later frees times more two route.0 row once_two station_two reached_two some_works.1 apart_two can_two there_two ended_two (let count = count_some in omega (arith, far, enough, count))
+  pub free_behind_approach : (state : RouteState) → slice_get (good_rounds (between ∷ (later_rounds ++ and_cancel route before ∷ (some ++ more))) flowing).state.run.interlocking.ixl.routes route.0 ≡ Some state → IsUnseen row state
+      → AllClear flowing.state.sited.table (good_rounds (between ∷ (later_rounds ++ and_cancel route before ∷ (some ++ more))) flowing).state.run.interlocking.ixl row.sections → is_set state.phase ≡ false
+  free_behind_approach state is unseen clear = free_later frees times more two route.0 row (subst (λ (s : SitedTable). Once s.site) (sym at_two.same) once) (subst (λ (s : SitedTable). IsStation s.site) (sym at_two.same) station)
+      (subst (λ (s : SitedTable). IsReached s.site s.table two.state.run) (sym at_two.same) at_two.reached) some_works.1 (subst (IsNotSetAnew route.0 more) (sym two_is) some_apart.1) can_two (subst (λ (s : SitedTable). slice_get s.table.rows route.0 ≡ Some row) (sym at_two.same) there) far_more ended_two
       state (ap (λ (f : Flowing). slice_get f.state.run.interlocking.ixl.routes route.0) (sym behind_is) ∙ is) unseen
       (subst (λ (s : SitedTable). AllClear s.table (good_rounds more two).state.run.interlocking.ixl row.sections) (sym at_two.same) (subst (λ (f : Flowing). AllClear sited.table f.state.run.interlocking.ixl row.sections) behind_is clear))
-      (subst (λ (s : SitedTable). AreLongClear (reading_of (good_rounds more two).state.run.interlocking.clock) s.table state) (sym at_two.same) (subst (λ (f : Flowing). AreLongClear (reading_of f.state.run.interlocking.clock) sited.table state) behind_is long_clear))
-
--- ---- two rounds after the cancel, or so many more that all reports have come
-
-rounds_enough : (strict : Bool) (n : ℕ) → (if strict then 182 else 2) ≤ n → 2 ≤ n
-rounds_enough true n far = omega (arith, far)
-rounds_enough false n far = far
-
-rounds_of_reports : (strict : Bool) (n : ℕ) → strict ≡ true → (if strict then 182 else 2) ≤ suc (suc n) → 180 ≤ n
-rounds_of_reports true n is far = omega (arith, far)
-rounds_of_reports false n is far = absurd (false≢true is)
-
-module _ (frees : FreeLaw) (laws : LawsBelow) (between : List Event) (later_rounds : List (List Event)) (before : List Event) (flowing : Flowing) (route : RouteId) (row : Row) (once : Once flowing.state.sited.site)
-    (station : IsStation flowing.state.sited.site) (is_table : IsTableOf flowing.state.sited.site flowing.state.sited.table) (reached : IsReached flowing.state.sited.site flowing.state.sited.table flowing.state.run) (work : Each IsWork between)
-    (works : Each (Each IsWork) later_rounds) (before_works : Each IsWork before) (there : slice_get flowing.state.sited.table.rows route.0 ≡ Some row) (long : ready_rounds ≤ suc (suc (length later_rounds)))
-    (proceeds : At (as_cancel_comes (between ∷ later_rounds) before flowing).state.run.interlocking.ixl.routes route.0 Proceeds) (accepted : AcceptsCancel route (as_cancel_comes (between ∷ later_rounds) before flowing).state) where
-  pub free_behind_cancel_so : (more : List (List Event)) → Each (Each IsWork) more → IsNotSetAnew route.0 more (good_rounds (between ∷ (later_rounds ++ and_cancel route before ∷ [])) flowing)
-      → HasTime (suc (length (later_rounds ++ and_cancel route before ∷ more))) flowing.state.run → free_rounds flowing.state.sited.table ≤ length more
-      → StaysBelowLimit flowing.state.sited.site row.entry (later_rounds ++ and_cancel route before ∷ more) (all_tried between (round flowing))
-      → (state : RouteState) → slice_get (good_rounds (between ∷ (later_rounds ++ and_cancel route before ∷ more)) flowing).state.run.interlocking.ixl.routes route.0 ≡ Some state → IsUnseen row state
-      → AllClear flowing.state.sited.table (good_rounds (between ∷ (later_rounds ++ and_cancel route before ∷ more)) flowing).state.run.interlocking.ixl row.sections
-      → AreLongClear (reading_of (good_rounds (between ∷ (later_rounds ++ and_cancel route before ∷ more)) flowing).state.run.interlocking.clock) flowing.state.sited.table state
-      → state.approached ≡ false → is_set state.phase ≡ false
-  free_behind_cancel_so [] more_works apart can far below state is unseen clear long_clear unapproached = absurd (let few : 2 ≤ 0 = rounds_enough flowing.state.sited.table.is_strict 0 far in omega (arith, few))
-  free_behind_cancel_so (one ∷ []) more_works apart can far below state is unseen clear long_clear unapproached = absurd (let few : 2 ≤ 1 = rounds_enough flowing.state.sited.table.is_strict 1 far in omega (arith, few))
-  free_behind_cancel_so (one ∷ two ∷ rest) more_works apart can far below state is unseen clear long_clear unapproached =
-      free_behind_cancel frees laws between later_rounds before (one ∷ two ∷ rest) flowing route row once station is_table reached work works before_works more_works apart can there long
-      (rounds_enough flowing.state.sited.table.is_strict (suc (suc (length rest))) far) below proceeds accepted state is unseen clear unapproached
-      (λ clock done ends strict. let noted = long_clear strict in record {
-        ended = ended_come_behind frees laws between later_rounds before (one ∷ two ∷ []) rest flowing route row once station is_table reached work works before_works more_works apart can there long refl below_two_more proceeds accepted
-            (rounds_of_reports flowing.state.sited.table.is_strict (length rest) strict far) state clock done is ends;
-        since = noted.0;
-        noted = noted.1;
-        clear = noted.2;
-      })
-    where
-      below_two_more : StaysBelowLimit flowing.state.sited.site row.entry (later_rounds ++ and_cancel route before ∷ one ∷ two ∷ []) (all_tried between (round flowing))
-      below_two_more at_first are = below_front row.entry (later_rounds ++ and_cancel route before ∷ one ∷ two ∷ []) rest (all_tried between (round flowing)) at_first
-          (subst (λ (l : List (List Event)). StayBelowOn row.entry l (all_tried between (round flowing)) at_first) (sym (append_assoc later_rounds (and_cancel route before ∷ one ∷ two ∷ []) rest)) (below at_first are))

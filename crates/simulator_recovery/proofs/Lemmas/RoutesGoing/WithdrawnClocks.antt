@@ -26,7 +26,6 @@ ended_keeps now number = record {
   freed = λ route by clock done e. absurd (cc e);
   authorised = λ table ixl row route waits by clock done e. absurd (cc e);
   watched = λ route approached by. by;
-  noted = λ route since by. by;
   looked = λ route passage by. by;
   sets = λ asked route obeys same by clock done e. absurd (cc e);
   cancelled = λ route by. by;

@@ -82,7 +82,7 @@ module _ (laws : LawsBelow) (sited : SitedTable) (station : IsStation sited.site
         by kept later e =
             let ready : is_ready found.0.client.stage ≡ true = kept.0 (inside found.0 found.1 up)
             in (
-              step_ready sited.site sited.table input world signal reached (found.0, found.1, ready) (found.0, found.1, up found.0 found.1) later e,
+              step_ready sited.site sited.table input world signal (found.0, found.1, ready) (found.0, found.1, up found.0 found.1) later e,
               λ is. let least = kept.1 ready in let more = step_grows sited.site sited.table signal input world found.0 reached found.1 ready (up found.0 found.1) (by_counts found.0 found.1 up) later e is in omega (arith, least, more),
             )
 

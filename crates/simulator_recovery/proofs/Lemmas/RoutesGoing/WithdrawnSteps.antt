@@ -1,30 +1,27 @@
 -- In a step in which a route loses its aspect its signal is given stop; or the route keeps it.
-use Rattle.simulator_recovery.proofs.Words.Basics.{◌≡◌, ◌≢◌, ◌⊎◌, inl, inr, ℕ, ◌+◌, ◌≤◌, ◌==◌, Bool, true, false, not, List, [], Option, Some, None, slice_get, refl, sym, ap, subst, ◌∙◌, arith, ◌||◌, false≢true, same_Some, ◌&&◌}
+use Rattle.simulator_recovery.proofs.Words.Basics.{◌≡◌, ◌≢◌, ◌⊎◌, inl, inr, ℕ, ◌+◌, ◌≤◌, ◌==◌, Bool, true, false, not, List, [], Option, Some, None, slice_get, refl, sym, ap, subst, ◌∙◌, arith, ◌||◌, false≢true, same_Some}
 use Rattle.simulator_recovery.proofs.Words.Links.{settled, reading_of, OutboxState, stops_at_greatest, LinkState, is_up, reading, Key}
 use Rattle.simulator_recovery.proofs.Words.Controllers.{Aspect}
-use Rattle.simulator_recovery.proofs.Words.Interlockings.{ClientState, is_ready, ClientSoFar, begun, clocked, commanding, hearing, ticking, commanded_by, obeyed, refusal, set_anew, At, come_to, count, ending_authority, is_proceeding, is_stop_due, is_withdrawn, ruled, stopped, withdrawing, withdrawn, KnownSignalState, RouteState, changed, Commands, Datagram, Input, Tick, addressed, detector_hearing, given, known_point_hearing, known_signal_hearing, looking, looking_by, looks, node_hearing, occupied_heard, stepped, ticked, watching, Detector, Node, Point, Signal, StepSoFar, begun_with, detector_after, empty_outbox, giving_aspect, known_signal_after, noted, with_detector, with_one, with_route, Row, Table, is_signal_ready, was_authorised, Command, Refusal, Phase, giving_move, moved_at_once, is_outside, as_found, noting}
+use Rattle.simulator_recovery.proofs.Words.Interlockings.{ClientState, is_ready, ClientSoFar, begun, clocked, commanding, hearing, ticking, commanded_by, obeyed, refusal, set_anew, At, come_to, count, ending_authority, is_proceeding, is_stop_due, is_withdrawn, ruled, stopped, withdrawing, withdrawn, KnownSignalState, RouteState, changed, Commands, Datagram, Input, Tick, addressed, all_clocked, clocked_known_signal, detector_hearing, given, known_point_hearing, known_signal_hearing, looking, looking_by, looks, node_hearing, occupied_heard, stepped, ticked, watching, Detector, Node, Point, Signal, StepSoFar, begun_with, detector_after, empty_outbox, giving_aspect, known_signal_after, noted, over, with_detector, with_one, with_route, Row, Table, is_signal_ready, was_authorised, Command, Refusal, Phase, giving_move, moved_at_once}
 use Rattle.simulator_recovery.proofs.Words.Stations.{Site, RouteId, Event, interlocking_stepped, key_of, WorldState, IsReached}
 use Rattle.simulator_recovery.proofs.Words.Recovery.{ClientStandsByCounts, SetsNot}
 use Rattle.simulator_spec.specs.ixl_client.declared.command.Command.{Command as ClientCommand}
 use Rattle.simulator_recovery.proofs.Lemmas.Windows.SignalWindows.{reached_rests}
 use Rattle.simulator_recovery.proofs.Lemmas.Ground.AspectCalls.{hears as hears_so}
-use Rattle.simulator_recovery.proofs.Lemmas.RoutesGoing.AuthorityCancels.{CountsSo, command_counts}
+use Rattle.simulator_recovery.proofs.Lemmas.RoutesGoing.AuthorityCancels.{CountsSo, clocked_there, command_counts}
 use Rattle.simulator_recovery.proofs.Lemmas.Lamps.Cancelled.{NoCommand as NoOne, OfRoute, RouteKeeps, none_comes, route_keep}
-use Rattle.simulator_recovery.proofs.Lemmas.Talk.ClientLinks.{ClockedStands, clocked_stands, commanding_stands, hearing_stands, ticking_stands, up_open, shut_stands}
+use Rattle.simulator_recovery.proofs.Lemmas.Talk.ClientLinks.{ClockedStands, clocked_stands, commanding_stands, hearing_stands, ticking_stands, up_open}
 use Rattle.simulator_recovery.proofs.Lemmas.RoutesComing.DueKnown.{inside_ticks}
 use Rattle.simulator_recovery.proofs.Lemmas.Ground.IxlClients.{changed_at, signal_client}
 use Rattle.simulator_recovery.proofs.Lemmas.Ground.IxlSoFar.{set_at}
-use Rattle.simulator_recovery.proofs.Lemmas.Ground.DueShapes.{along_keeps, either_keeps, one_keeps, over_keeps, route_keeps, where_keeps, found_in, seen_in, seen_keeps}
+use Rattle.simulator_recovery.proofs.Lemmas.Ground.DueShapes.{along_keeps, either_keeps, one_keeps, over_keeps, route_keeps, where_keeps}
 use Rattle.simulator_recovery.proofs.Lemmas.Windows.FewItems.{GivesFew}
 use Rattle.simulator_recovery.proofs.Lemmas.RoutesComing.RoutesGround.{clocked_up}
-use Rattle.simulator_recovery.proofs.Lemmas.Ground.SignalParts.{IsGiven, PartsKeep, RulesKeep, aspect_held, behind_ending, both_rules, ending_held, new_signal, over_held, step_held, ticked_held, looked_held, found_held}
+use Rattle.simulator_recovery.proofs.Lemmas.Ground.SignalParts.{IsGiven, PartsKeep, RulesKeep, aspect_held, behind_ending, both_rules, clocked_held, ending_held, new_signal, over_held, step_held, ticked_held, watching_held}
 use Rattle.simulator_recovery.proofs.Lemmas.Talk.StationTalk.{clocked_link}
 use Rattle.simulator_recovery.proofs.Lemmas.Lamps.StopsGiven.{changed_elsewhere, changed_here, differs, is_equal}
 use Rattle.simulator_recovery.proofs.Lemmas.Windows.WaitingItems.{clock_went, done_went, ready_inside, ticked_none}
 use Rattle.simulator_recovery.proofs.Lemmas.Ground.MovedAtOnce.{moved_keeps}
-use Rattle.simulator_recovery.proofs.Lemmas.Ground.FoundIxl.{found_is, found_signal, signal_found, signal_there}
-use Rattle.simulator_recovery.proofs.Lemmas.Ground.FoundClients.{by_closing}
-use Rattle.simulator_recovery.proofs.Lemmas.Ground.GoneClients.{IsGone, gone_outside, hears_gone, shut_gone}
 
 -- ---- a client that is ready
 
@@ -59,34 +56,13 @@ Counted items known = ClientCounts items known.client
 counted_so : (now items : ℕ) (known : KnownSignalState) → ReadySo now items known → Counted items known
 counted_so now items known so = (so.stands.stands, λ ready. ready_counts items known.client so.stands.stands ready so.are)
 
-up_inside : (outside up : Bool) → outside ≡ not up → outside ≡ false → up ≡ true
-up_inside outside true e inside = refl
-up_inside outside false e inside = absurd (false≢true (sym inside ∙ e))
-
 -- nothing is given by what it hears
 heard_so : (now items : ℕ) (bytes : List ℕ) (known : KnownSignalState) (outbox : OutboxState) → ReadySo now items known → is_ready (hearing now bytes (begun known.client outbox)).client.stage ≡ true
     → CountsSo items (hearing now bytes (begun known.client outbox)).client
 heard_so now items bytes known outbox so ready =
     let went = done_went now known.client (hearing now bytes (begun known.client outbox)) (hears_so bytes outbox refl)
-    in let none = went.none so.few so.ready (went.up (up_inside (is_outside known.client.stage) (is_up known.client.link.phase) so.stands.stands.outside) (ready_inside _ ready))
+    in let none = went.none so.few so.ready (went.up (ready_inside _ ready))
     in ready_counts items (hearing now bytes (begun known.client outbox)).client (hearing_stands now bytes (begun known.client outbox) so.stands) ready (none.given ∙ so.are)
-
--- a client whose link was closed hears nothing, and is in no connection
-gone_counts : (now items : ℕ) (client : ClientState) → IsGone now client → ClientStandsByCounts client → ClientCounts items client
-gone_counts now items client gone stands = (stands, λ ready. absurd (gone_outside now client gone (ready_inside client.stage ready)))
-
--- It is so after the clock; or its link isn't caught up any more, and was closed.
-abbrev ReadyOrGone : (now items : ℕ) → KnownSignalState → Type 0
-ReadyOrGone now items known = ReadySo now items known ⊎ (IsGone now known.client × ClockedStands now known.client)
-
-counted_or : (now items : ℕ) (known : KnownSignalState) → ReadyOrGone now items known → Counted items known
-counted_or now items known (inl so) = counted_so now items known so
-counted_or now items known (inr gone) = gone_counts now items known.client gone.0 gone.1.stands
-
-hears_or : (now items : ℕ) (bytes : List ℕ) (known : KnownSignalState) (outbox : OutboxState) → ReadyOrGone now items known → ClientCounts items (hearing now bytes (begun known.client outbox)).client
-hears_or now items bytes known outbox (inl so) = (hearing_stands now bytes (begun known.client outbox) so.stands, heard_so now items bytes known outbox so)
-hears_or now items bytes known outbox (inr gone) =
-    gone_counts now items (hearing now bytes (begun known.client outbox)).client (hears_gone now bytes (begun known.client outbox) gone.0) (hearing_stands now bytes (begun known.client outbox) gone.1)
 
 -- ---- a signal of a list
 
@@ -103,13 +79,13 @@ at_set F signal place new signals so is = decide (signal == place) refl
 
 module _ (now : ℕ) (table : Table) (signal items : ℕ) where
   abbrev Ready : StepSoFar → Type 0
-  Ready part = At part.ixl.known_signals signal (ReadyOrGone now items)
+  Ready part = At part.ixl.known_signals signal (ReadySo now items)
 
   abbrev Counts : StepSoFar → Type 0
   Counts part = At part.ixl.known_signals signal (Counted items)
 
   counts : (part : StepSoFar) → Ready part → Counts part
-  counts part is = (is.0, is.1, counted_or now items is.0 is.2)
+  counts part is = (is.0, is.1, counted_so now items is.0 is.2)
 
   looking_counts : (look : ℕ × Bool) (part : StepSoFar) → Counts part → Counts (looking table look part)
   unfolding looking_by
@@ -122,7 +98,8 @@ module _ (now : ℕ) (table : Table) (signal items : ℕ) where
       heard : (known : KnownSignalState) → slice_get part.ixl.known_signals place ≡ Some known → place ≡ signal → (indicated : Option Aspect)
           → Counted items (known_signal_after known.aspect known.number indicated (hearing now bytes (begun known.client part.outbox)).client)
       heard known e same indicated = subst (ClientCounts items) (sym (signal_client known.aspect known.number indicated (hearing now bytes (begun known.client part.outbox)).client))
-          (hears_or now items bytes known part.outbox (subst (ReadyOrGone now items) (same_Some is.0 known (sym is.1 ∙ (ap (slice_get part.ixl.known_signals) (sym same) ∙ e))) is.2))
+          (let so : ReadySo now items known = subst (ReadySo now items) (same_Some is.0 known (sym is.1 ∙ (ap (slice_get part.ixl.known_signals) (sym same) ∙ e))) is.2
+          in (hearing_stands now bytes (begun known.client part.outbox) so.stands, heard_so now items bytes known part.outbox so))
   hearing_counts bytes (Point place) part is = one_keeps Counts (slice_get part.ixl.known_points place) _ part (λ known e. counts part is) (counts part is)
   hearing_counts bytes (Detector place) part is = one_keeps Counts (slice_get table.detectors place) _ part (λ sections f. one_keeps Counts (slice_get part.ixl.detectors place) _ part (λ known e.
       let done = hearing now bytes (begun known.client part.outbox)
@@ -159,13 +136,9 @@ module _ (now : ℕ) (table : Table) (signal items : ℕ) where
   unfolding watching
   watching_counts number part is = route_keeps Counts table number _ part (λ row route there here. where_keeps Counts (is_proceeding route.phase || is_withdrawn route.phase) part _ (λ due. is) is) is
 
-  noting_counts : (number : ℕ) (part : StepSoFar) → Counts part → Counts (noting now table number part)
-  unfolding noting
-  noting_counts number part is = route_keeps Counts table number _ part (λ row route there here. where_keeps Counts (table.is_strict && was_authorised route.phase) part _ (λ due. is) is) is
-
   -- before the rules
-  seen_counts : (key : Key) (input : Input) (part : StepSoFar) → Ready part → Counts (seen_in now table (given now table key input part))
-  seen_counts key input part is = seen_keeps Counts now table watching_counts noting_counts _ (given_counts key input part is)
+  seen_counts : (key : Key) (input : Input) (part : StepSoFar) → Ready part → Counts (over (watching table) (count table) (given now table key input part))
+  seen_counts key input part is = over_keeps Counts (watching table) watching_counts (count table) _ (given_counts key input part is)
 
 -- ---- what is given by the rules
 
@@ -255,16 +228,20 @@ module _ (site : Site) (table : Table) (signal : ℕ) (input : Input) (world : W
   begins = begun_with world.interlocking.ixl empty_outbox
 
   abbrev pub seen_then : StepSoFar
-  seen_then = seen_in Now table (given Now table (key_of site) input (found_in Now begins))
+  seen_then = over (watching table) (count table) (given Now table (key_of site) input (record begins { ixl = all_clocked Now begins.ixl }))
 
   late : KnownSignalState
-  late = found_signal Now known
+  late = clocked_known_signal Now known
+
+  client_is : late.client ≡ clocked Now known.client
+  unfolding late
+  client_is = signal_client known.aspect known.number known.indicated (clocked Now known.client)
 
   up_late : is_up (clocked Now known.client).link.phase ≡ true
   up_late = ap (λ (l : LinkState). is_up l.phase) (clocked_link Now known.client) ∙ up
 
-  calm_so : late.client ≡ clocked Now known.client → ReadySo Now known.client.link.given late
-  calm_so client_is =
+  late_so : ReadySo Now known.client.link.given late
+  late_so =
       let few = ((reached_rests site table world reached).few signal known there).gives
       in let went = clock_went Now known.client
       in record {
@@ -274,15 +251,9 @@ module _ (site : Site) (table : Table) (signal : ℕ) (input : Input) (world : W
         are = ap (λ (c : ClientState). c.link.given) client_is ∙ (went.none few ready up_late).given;
       }
 
-  late_so : ReadyOrGone Now known.client.link.given late
-  unfolding late
-  late_so = by_closing (λ (c : ClientState). late.client ≡ c → ReadyOrGone Now known.client.link.given late) Now (clocked Now known.client)
-      (λ behind same. inr (subst (IsGone Now) (sym same) (shut_gone Now (clocked Now known.client) (clocked_stands Now known.client stands) behind), subst (ClockedStands Now) (sym same) (shut_stands Now (clocked Now known.client))))
-      (λ calm same. inl (calm_so same)) (signal_found Now known)
-
   pub seen_known : At seen_then.ixl.known_signals signal (Counted known.client.link.given)
   unfolding late
-  seen_known = seen_counts Now table signal known.client.link.given (key_of site) input (found_in Now begins) (late, signal_there Now begins signal known there, late_so)
+  seen_known = seen_counts Now table signal known.client.link.given (key_of site) input (record begins { ixl = all_clocked Now begins.ixl }) (late, clocked_there Now world.interlocking.ixl signal known there, late_so)
 
   -- while it is ready it gives no less
   pub step_grows : (later : KnownSignalState) → slice_get (interlocking_stepped site table input world).interlocking.ixl.known_signals signal ≡ Some later → is_ready later.client.stage ≡ true → known.client.link.given ≤ later.client.link.given
@@ -298,7 +269,7 @@ module _ (site : Site) (table : Table) (signal : ℕ) (input : Input) (world : W
 -- no request for the route comes that is accepted
 abbrev pub Apart : Table → ℕ → Input → WorldState → Type 0
 Apart table number input world = (command : Command) → input ≡ Commands command
-    → refusal (reading_of world.interlocking.clock) table command (as_found (reading_of world.interlocking.clock) world.interlocking.ixl) ≡ None → SetsNot number (Event.Request command)
+    → refusal (reading_of world.interlocking.clock) table command (all_clocked (reading_of world.interlocking.clock) world.interlocking.ixl) ≡ None → SetsNot number (Event.Request command)
 
 module _ (now : ℕ) (table : Table) (number : ℕ) (P : List RouteState → List KnownSignalState → Type 0) (keep : PartsKeep now table (λ command. SetsNot number (Event.Request command)) P) where
   abbrev Asks : Command → Type 0
@@ -312,23 +283,23 @@ module _ (now : ℕ) (table : Table) (number : ℕ) (P : List RouteState → Lis
   given_refused key command cause part refused all =
       subst (λ (found : Option Refusal). Held (moved_at_once now found command (record part { ixl = commanded_by now found command part.ixl }))) (sym refused) all
 
-  refused_held : (key : Key) (command : Command) (cause : Refusal) (part : StepSoFar) → refusal now table command (as_found now part.ixl) ≡ Some cause → Held part → Held (stepped now table key (Commands command) part)
+  refused_held : (key : Key) (command : Command) (cause : Refusal) (part : StepSoFar) → refusal now table command (all_clocked now part.ixl) ≡ Some cause → Held part → Held (stepped now table key (Commands command) part)
   unfolding stepped
   refused_held key command cause part refused all = ticked_held now table P keep.rules (Commands command) _ (behind_ending now table P keep.rules _ (both_rules now table Asks P keep _
-      (looked_held now table Asks P keep _
-      (given_refused key command cause (found_in now part) (ap (refusal now table command) (found_is now part) ∙ refused) (found_held now table Asks P keep part all)))))
+      (over_held now table P keep.rules (watching table) (watching_held now table Asks P keep) (count table) _
+      (given_refused key command cause (record part { ixl = all_clocked now part.ixl }) refused (clocked_held now table Asks P keep part all)))))
 
   -- what the parts of a step keep where no request comes for the route is kept where it is refused
-  pub held_apart : (key : Key) (input : Input) (part : StepSoFar) → ((command : Command) → input ≡ Commands command → refusal now table command (as_found now part.ixl) ≡ None → SetsNot number (Event.Request command))
+  pub held_apart : (key : Key) (input : Input) (part : StepSoFar) → ((command : Command) → input ≡ Commands command → refusal now table command (all_clocked now part.ixl) ≡ None → SetsNot number (Event.Request command))
       → Held part → Held (stepped now table key input part)
   held_apart key Tick part apart all = step_held now table Asks P keep key Tick part (λ command e. absurd (cc e)) all
   held_apart key (Datagram bytes) part apart all = step_held now table Asks P keep key (Datagram bytes) part (λ command e. absurd (cc e)) all
-  held_apart key (Commands command) part apart all = by_refusal (refusal now table command (as_found now part.ixl)) refl
+  held_apart key (Commands command) part apart all = by_refusal (refusal now table command (all_clocked now part.ixl)) refl
     where
       same_command : {one other : Command} → Commands one ≡ Commands other → one ≡ other
       same_command e = cc e
 
-      by_refusal : (found : Option Refusal) → refusal now table command (as_found now part.ixl) ≡ found → Held (stepped now table key (Commands command) part)
+      by_refusal : (found : Option Refusal) → refusal now table command (all_clocked now part.ixl) ≡ found → Held (stepped now table key (Commands command) part)
       by_refusal None e = step_held now table Asks P keep key (Commands command) part (λ other f. subst Asks (same_command f) (apart command refl e)) all
       by_refusal (Some cause) e = refused_held key command cause part e all
 

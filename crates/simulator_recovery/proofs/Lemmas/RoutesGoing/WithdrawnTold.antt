@@ -111,7 +111,7 @@ module _ (laws : LawsBelow) (sited : SitedTable) (station : IsStation sited.site
   pub up_of : (rounds : List (List Event)) → Each (Each IsWork) rounds → HasTime (length rounds) next.state.run → recovery_rounds_at_work ≤ length rounds → StaysBelowLimit sited.site link rounds next → UpBehind rounds
   up_of rounds works can long below =
       let b = behind_rounds laws sited station once is_table link there first flowing work_first start rounds works can
-      in record { behind = b; opens = rounds_open link rounds next start.before works (rounds_stay laws sited station once is_table link there rounds next start.before start.is (below start.before start.has.are)); below = b.below below; long = long }
+      in record { behind = b; opens = rounds_open link rounds next start.before works (rounds_stay laws sited station once is_table link there rounds next start.is); below = b.below below; long = long }
 
   long_lists : (rounds : List (List Event)) → UpBehind rounds → recovery_rounds_at_work ≤ length (lists rounds)
   long_lists rounds s = let l = s.long in let n = lists_length link rounds next start.before in omega (arith, l, n)

@@ -181,7 +181,7 @@ module _ (laws : LawsBelow) (between : List Event) (later : List (List Event)) (
       let b = behind_rounds laws sited station once is_table link below_links between flowing work start later works (start.later_can (length later) can)
       in record {
         behind = b;
-        opens = rounds_open link later next start.before works (rounds_stay laws sited station once is_table link below_links later next start.before start.is (below start.before start.has.are));
+        opens = rounds_open link later next start.before works (rounds_stay laws sited station once is_table link below_links later next start.is);
         below = b.below below;
         long = omega (arith, long);
       }

@@ -1,20 +1,19 @@
 -- What the client of a detector keeps of its sections in a step is what the items tell that it has taken.
 use Rattle.simulator_recovery.proofs.Words.Basics.{◌≡◌, ◌⊎◌, inl, inr, ℕ, ◌==◌, ◌∙◌, Bool, true, false, not, ◌&&◌, ◌||◌, List, [], ◌∷◌, ◌++◌, append_assoc, Option, Some, None, if◌then◌else◌, refl, sym, ap, nat_cmp_total, unsigned_tied, contains, contains-empty, contains-insert, contains-remove, empty, insert, remove, nat_cmp, ◌≢◌, ◌<◌, ◌-◌, nat_le, append-nil, map, slice_get, subst, arith, false≢true, nat_tests}
 use Rattle.simulator_recovery.proofs.Words.Controllers.{reading}
-use Rattle.simulator_recovery.proofs.Words.Interlockings.{PeerState, told_by, told_by_all, Indication, ObjectState, is_told_occupied, occupied_heard, ClientState, is_outside, ClientSoFar, Closes, LinkCall, Opens, Receives, Sends, Ticks, as_call, begun, ActsOn, AreOwn, MakesAfterReceipt, MakesOwn, link_after, clocked, hearing, ticking, KnownDetectorState, changed, clocked_detector, Detector, Node, Point, Signal, detector_after, closing_behind}
+use Rattle.simulator_recovery.proofs.Words.Interlockings.{PeerState, told_by, told_by_all, Indication, ObjectState, is_told_occupied, occupied_heard, ClientState, is_outside, ClientSoFar, Closes, LinkCall, Opens, Receives, Sends, Ticks, as_call, begun, ActsOn, AreOwn, MakesAfterReceipt, MakesOwn, link_after, clocked, hearing, ticking, KnownDetectorState, changed, clocked_detector, Detector, Node, Point, Signal, detector_after}
 use Rattle.simulator_recovery.proofs.Words.Stations.{Places}
 use Rattle.simulator_recovery.proofs.Words.Recovery.{is_told, told_behind, told_in, ClientStandsByCounts, LawsBelow}
-use Rattle.simulator_recovery.proofs.Words.Links.{opening, opens, receiving, ticking as link_ticking, settled, Call, beginning, requesting, OutboxState, Step, beating, entered, sending, silent, LinkState, is_client, is_open, is_up, all_made, made_by, Heartbeat, Identity, Reason}
+use Rattle.simulator_recovery.proofs.Words.Links.{opening, opens, receiving, ticking as link_ticking, settled, Call, beginning, requesting, OutboxState, Step, beating, entered, sending, silent, LinkState, is_client, is_open, is_up, all_made, made_by, Heartbeat}
 use Rattle.simulator_recovery.proofs.Words.Machine.{taken_after}
 use Rattle.simulator_recovery.proofs.Lemmas.Ground.AspectCalls.{noted_at}
 use Rattle.simulator_recovery.proofs.Lemmas.Ground.ClientBehind.{all_took_behind}
-use Rattle.simulator_recovery.proofs.Lemmas.Talk.ClientLinks.{ClockedStands, clocked_peer, clocked_stands, hearing_peer, hearing_stands, ticking_peer, ticking_stands, up_open, closing_stands}
+use Rattle.simulator_recovery.proofs.Lemmas.Talk.ClientLinks.{ClockedStands, clocked_peer, clocked_stands, hearing_peer, hearing_stands, ticking_peer, ticking_stands, up_open}
 use Rattle.simulator_recovery.proofs.Lemmas.Ground.IxlSoFar.{at_itself, at_node, at_other, set_at}
 use Rattle.simulator_recovery.proofs.Lemmas.Ground.LinkCounts.{close_closes, entered_open, send_phase, settled_open, tick_was_open}
 use Rattle.simulator_recovery.proofs.Lemmas.Ground.EndCalls.{map_both}
-use Rattle.simulator_recovery.proofs.Lemmas.Sections.SectionsIxl.{SectionsKeep, heard_by, ticked_by, closed_by}
+use Rattle.simulator_recovery.proofs.Lemmas.Sections.SectionsIxl.{SectionsKeep, heard_by, ticked_by}
 use Rattle.simulator_recovery.proofs.Lemmas.Talk.StationTalk.{clocked_link, stays_shut}
-use Rattle.simulator_recovery.proofs.Lemmas.Ground.FoundClients.{by_calls, closing_identity, shut, shut_link, shut_so}
 
 -- ---- what indications tell last of a section, and what an interlocking keeps of them
 
@@ -319,23 +318,6 @@ module _ (laws : LawsBelow) (now connection : ℕ) where
           taken_is : taken_after now (map (as_call connection) done.calls) l t ≡ t
           taken_is = ap (λ (cs : List LinkCall). taken_after now (map (as_call connection) cs) l t) made.1.calls_are ∙ kept.1
 
-  -- one whose link is closed is outside, and else it knows what it knew
-  knows_shut : (occupied : Places) (client : ClientState) (t : List (List ℕ)) → is_open client.link.phase ≡ false → Knows (detector_after occupied client) t
-  knows_shut occupied client t shut_so = record {
-    outside = after_outside occupied client;
-    last = λ up. absurd (false≢true (sym (ap (λ (c : ClientState). is_open c.link.phase) (after_client occupied client) ∙ shut_so) ∙ up_open _ up));
-  }
-
-  knows_same : (known : KnownDetectorState) (t : List (List ℕ)) → ClientStandsByCounts known.client → Knows known t → Knows (detector_after known.occupied known.client) t
-  knows_same known t stands knows = record { outside = after_outside known.occupied known.client; last = is_last }
-    where
-      is_last : is_up (detector_after known.occupied known.client).client.link.phase ≡ true
-          → (detector_after known.occupied known.client).occupied ≡ occupied_heard (told_by_all (detector_after known.occupied known.client).client.peer t) empty
-      is_last up =
-          let was = ap (λ (c : ClientState). is_up c.link.phase) (sym (after_client known.occupied known.client)) ∙ up
-          in after_inside known.occupied known.client (up_inside known.client stands was)
-          ∙ (knows.last was ∙ ap (λ (p : PeerState). occupied_heard (told_by_all p t) empty) (sym (ap (λ (c : ClientState). c.peer) (after_client known.occupied known.client))))
-
   -- ---- all detectors, with the calls of their links so far
 
   module _ (link_of : ℕ → LinkState) (took : ℕ → List (List ℕ)) (count : ℕ) where
@@ -347,11 +329,12 @@ module _ (laws : LawsBelow) (now connection : ℕ) where
 
     pub record ClockedAt (place : ℕ) (known : KnownDetectorState) (calls : List LinkCall) : Type 0 where
       pub within : place < count
-      pub link_is : known.client.link ≡ (all_made now (map (as_call connection) calls) (link_of place)).link
+      pub none : calls ≡ []
+      pub link_is : known.client.link ≡ link_of place
       pub counts : ClockedStands now known.client
       pub asks : is_client known.client.link.identity.role ≡ true
-      pub nothing : is_open known.client.link.phase ≡ true → is_up known.client.link.phase ≡ false → taken_after now (map (as_call connection) calls) (link_of place) (took place) ≡ []
-      pub knows : Knows known (taken_after now (map (as_call connection) calls) (link_of place) (took place))
+      pub nothing : is_open known.client.link.phase ≡ true → is_up known.client.link.phase ≡ false → took place ≡ []
+      pub knows : Knows known (took place)
 
     abbrev pub Holds : List KnownDetectorState → List (Node × LinkCall) → Type 0
     Holds detectors calls = (place : ℕ) (known : KnownDetectorState) → slice_get detectors place ≡ Some known → HoldsAt place known (at_node (Detector place) calls)
@@ -360,20 +343,18 @@ module _ (laws : LawsBelow) (now connection : ℕ) where
     Clocked detectors calls = (place : ℕ) (known : KnownDetectorState) → slice_get detectors place ≡ Some known → ClockedAt place known (at_node (Detector place) calls)
 
     clocked_holds : (place : ℕ) (known : KnownDetectorState) (calls : List LinkCall) → ClockedAt place known calls → HoldsAt place known calls
-    clocked_holds place known calls c = record { within = c.within; link_is = c.link_is; counts = c.counts.stands; knows = c.knows }
+    unfolding all_made taken_after
+    clocked_holds place known calls c = subst (HoldsAt place known) (sym c.none) (record { within = c.within; link_is = c.link_is; counts = c.counts.stands; knows = c.knows })
 
     -- one of the detectors goes on by these calls more
-    abbrev EachAt : (ℕ → KnownDetectorState → List LinkCall → Type 0) → List KnownDetectorState → List (Node × LinkCall) → Type 0
-    EachAt At detectors calls = (place : ℕ) (known : KnownDetectorState) → slice_get detectors place ≡ Some known → At place known (at_node (Detector place) calls)
-
-    one_goes_on : (At : ℕ → KnownDetectorState → List LinkCall → Type 0) (place : ℕ) (new : KnownDetectorState) (more : List LinkCall) (detectors : List KnownDetectorState) (calls : List (Node × LinkCall)) → At place new (at_node (Detector place) calls ++ more)
-        → EachAt At detectors calls → EachAt At (changed (λ old. new) place detectors) (noted_at (Detector place) more calls)
-    one_goes_on At place new more detectors calls is all k known e = choose (set_at place new detectors k known e)
+    one_goes_on : (place : ℕ) (new : KnownDetectorState) (more : List LinkCall) (detectors : List KnownDetectorState) (calls : List (Node × LinkCall)) → HoldsAt place new (at_node (Detector place) calls ++ more) → Holds detectors calls
+        → Holds (changed (λ old. new) place detectors) (noted_at (Detector place) more calls)
+    one_goes_on place new more detectors calls is all k known e = choose (set_at place new detectors k known e)
       where
-        choose : ((k ≡ place) × (known ≡ new)) ⊎ ((k ≢ place) × (slice_get detectors k ≡ Some known)) → At k known (at_node (Detector k) (noted_at (Detector place) more calls))
-        choose (inl (same, f)) = subst (λ (n : ℕ). At n known (at_node (Detector n) (noted_at (Detector place) more calls))) (sym same)
-            (subst (λ (x : KnownDetectorState). At place x (at_node (Detector place) (noted_at (Detector place) more calls))) (sym f) (subst (At place new) (sym (at_itself (Detector place) calls more)) is))
-        choose (inr (apart, f)) = subst (At k known) (sym (at_other (Detector k) (Detector place) (differs (place == k) refl) calls more)) (all k known f)
+        choose : ((k ≡ place) × (known ≡ new)) ⊎ ((k ≢ place) × (slice_get detectors k ≡ Some known)) → HoldsAt k known (at_node (Detector k) (noted_at (Detector place) more calls))
+        choose (inl (same, f)) = subst (λ (n : ℕ). HoldsAt n known (at_node (Detector n) (noted_at (Detector place) more calls))) (sym same)
+            (subst (λ (x : KnownDetectorState). HoldsAt place x (at_node (Detector place) (noted_at (Detector place) more calls))) (sym f) (subst (HoldsAt place new) (sym (at_itself (Detector place) calls more)) is))
+        choose (inr (apart, f)) = subst (HoldsAt k known) (sym (at_other (Detector k) (Detector place) (differs (place == k) refl) calls more)) (all k known f)
           where
             differs : (b : Bool) → (place == k) ≡ b → (place == k) ≡ false
             differs false g = g
@@ -388,53 +369,31 @@ module _ (laws : LawsBelow) (now connection : ℕ) where
     taken_then place calls more known is = ap (λ (l : LinkState). taken_after now (map (as_call connection) more) l (taken_after now (map (as_call connection) calls) (link_of place) (took place))) is
         ∙ (sym (all_took_behind now connection (map (as_call connection) calls) (map (as_call connection) more) (link_of place) (took place)) ∙ ap (λ (cs : List Call). taken_after now cs (link_of place) (took place)) (sym (map_both (as_call connection) calls more)))
 
-    -- one whose link is closed, if it isn't caught up any more
-    closes_at : (place : ℕ) (known : KnownDetectorState) (outbox : OutboxState) (calls : List LinkCall) → ClockedAt place known calls → ClockedAt place (closed_by now known outbox) (calls ++ (closing_behind now (begun known.client outbox)).calls)
-    unfolding link_after
-    closes_at place known outbox calls c = record {
-      within = c.within;
-      link_is = by_calls (λ (x : ClientState) (cs : List LinkCall). (detector_after known.occupied x).client.link ≡ (all_made now (map (as_call connection) cs) (link_of place)).link) now known.client outbox calls
-          (λ behind. ap (λ (x : ClientState). x.link) (after_client known.occupied (shut now known.client)) ∙ link_then place calls (Closes Reason.User ∷ []) known (shut now known.client).link c.link_is (shut_link now known.client))
-          (λ calm. ap (λ (x : ClientState). x.link) (after_client known.occupied known.client) ∙ c.link_is);
-      counts = subst (ClockedStands now) (sym (after_client known.occupied done)) (closing_stands now (begun known.client outbox) c.counts);
-      asks = ap (λ (x : ClientState). is_client x.link.identity.role) (after_client known.occupied done) ∙ ap (λ (i : Identity). is_client i.role) (closing_identity now (begun known.client outbox)) ∙ c.asks;
-      nothing = by_calls (λ (x : ClientState) (cs : List LinkCall). is_open (detector_after known.occupied x).client.link.phase ≡ true → is_up (detector_after known.occupied x).client.link.phase ≡ false
-          → taken_after now (map (as_call connection) cs) (link_of place) (took place) ≡ []) now known.client outbox calls
-          (λ behind opened down. absurd (false≢true (sym (ap (λ (x : ClientState). is_open x.link.phase) (after_client known.occupied (shut now known.client)) ∙ (shut_so now known.client).closed) ∙ opened)))
-          (λ calm opened down. c.nothing (ap (λ (x : ClientState). is_open x.link.phase) (sym (after_client known.occupied known.client)) ∙ opened) (ap (λ (x : ClientState). is_up x.link.phase) (sym (after_client known.occupied known.client)) ∙ down));
-      knows = by_calls (λ (x : ClientState) (cs : List LinkCall). Knows (detector_after known.occupied x) (taken_after now (map (as_call connection) cs) (link_of place) (took place))) now known.client outbox calls
-          (λ behind. knows_shut known.occupied (shut now known.client) _ (shut_so now known.client).closed)
-          (λ calm. knows_same known _ c.counts.stands c.knows);
-    }
-      where
-        done : ClientState
-        done = (closing_behind now (begun known.client outbox)).client
+    took_none : (place : ℕ) (calls : List LinkCall) → calls ≡ [] → took place ≡ [] → taken_after now (map (as_call connection) calls) (link_of place) (took place) ≡ []
+    unfolding taken_after
+    took_none place calls none e = ap (λ (cs : List LinkCall). taken_after now (map (as_call connection) cs) (link_of place) (took place)) none ∙ e
 
     pub keep : SectionsKeep now Clocked Holds
     keep = record {
       weaker = λ detectors calls all place known e. clocked_holds place known (at_node (Detector place) calls) (all place known e);
-      closes = λ place known outbox detectors calls e all.
-          one_goes_on ClockedAt place (closed_by now known outbox) (closing_behind now (begun known.client outbox)).calls detectors calls (closes_at place known outbox (at_node (Detector place) calls) (all place known e)) all;
-      signal_closes = λ place more detectors calls all k known e. subst (ClockedAt k known) (sym (at_other (Detector k) (Signal place) refl calls more)) (all k known e);
-      point_closes = λ place more detectors calls all k known e. subst (ClockedAt k known) (sym (at_other (Detector k) (Point place) refl calls more)) (all k known e);
       hears = λ place known bytes outbox detectors calls e all.
           let c = all place known e
           in let h = clocked_holds place known (at_node (Detector place) calls) c
           in let made = laws.client_step_is_calls_receipt now bytes (begun known.client outbox)
           in let done = hearing now bytes (begun known.client outbox)
-          in one_goes_on HoldsAt place (heard_by now bytes known outbox) done.calls detectors calls (record {
+          in one_goes_on place (heard_by now bytes known outbox) done.calls detectors calls (record {
             within = h.within;
             link_is = ap (λ (x : ClientState). x.link) (after_client _ done.client) ∙ link_then place (at_node (Detector place) calls) done.calls known done.client.link h.link_is
                 (made.1.link_is ∙ ap (λ (cs : List LinkCall). link_after now cs known.client.link) (sym made.1.calls_are));
             counts = subst ClientStandsByCounts (sym (after_client _ done.client)) (hearing_stands now bytes (begun known.client outbox) c.counts);
             knows = subst (Knows (heard_by now bytes known outbox)) (taken_then place (at_node (Detector place) calls) done.calls known h.link_is)
-                (knows_heard bytes known outbox _ c.counts c.asks c.nothing h.knows);
+                (knows_heard bytes known outbox _ c.counts c.asks (λ opened down. took_none place (at_node (Detector place) calls) c.none (c.nothing opened down)) h.knows);
           }) (λ k other f. clocked_holds k other (at_node (Detector k) calls) (all k other f));
       ticks = λ place known outbox detectors calls e all.
           let h = all place known e
           in let made = laws.client_step_is_calls_tick now (begun known.client outbox)
           in let done = ticking now (begun known.client outbox)
-          in one_goes_on HoldsAt place (ticked_by now known outbox) done.calls detectors calls (record {
+          in one_goes_on place (ticked_by now known outbox) done.calls detectors calls (record {
             within = h.within;
             link_is = ap (λ (x : ClientState). x.link) (after_client _ done.client) ∙ link_then place (at_node (Detector place) calls) done.calls known done.client.link h.link_is
                 (made.1.link_is ∙ ap (λ (cs : List LinkCall). link_after now cs known.client.link) (sym made.1.calls_are));

@@ -1,7 +1,7 @@
 -- What the detectors of a station have given tells of their sections as they are, event by event.
 use Rattle.simulator_recovery.proofs.Words.Basics.{◌≡◌, inl, ℕ, ◌∙◌, Bool, true, false, not, ◌&&◌, List, [], ◌++◌, Option, Some, None, slice_get, if◌then◌else◌, refl, sym, ap, subst, false≢true}
 use Rattle.simulator_recovery.proofs.Words.Links.{settled, kept, reading_of, Links, begun, run_links, Ends, is_open}
-use Rattle.simulator_recovery.proofs.Words.Controllers.{called_all, entering, HostSoFar, HostState, fallen, is_completed, is_outside, items_given, beginning, host_step, IsToldIn, Input, Stage, losing, PointState, SignalState, detection_behaviour, Section, found}
+use Rattle.simulator_recovery.proofs.Words.Controllers.{called_all, entering, HostSoFar, HostState, fallen, is_completed, is_outside, items_given, beginning, host_step, IsToldIn, Input, Stage, losing, PointState, SignalState, detection_behaviour, Section}
 use Rattle.simulator_recovery.proofs.Words.Interlockings.{told_by_all, Table}
 use Rattle.simulator_recovery.proofs.Words.Stations.{DetectorEntry, Site, Once, IsStation, Event, step_of, Outset, at_zero, first_controller, new_detector, world_at, happens, AreLinksOf, names_at, starts_at_zero, ClockedControllerState, WorldState, events_of, IsWhole}
 use Rattle.simulator_recovery.proofs.Words.Recovery.{LawsBelow, IsToldAlways, WrittenIsRead, section_names, HasNames}
@@ -18,11 +18,10 @@ use Rattle.simulator_recovery.proofs.Lemmas.Talk.AlwaysSaid.{new_closed}
 use Rattle.simulator_recovery.proofs.Lemmas.Talk.AlwaysTold as tells_first
 use Rattle.simulator_recovery.proofs.Lemmas.Talk.AlwaysTold.{TellsDetector, keeps as tells_keep}
 use Rattle.simulator_recovery.proofs.Lemmas.Talk.Standing.{detectors_tell}
-use Rattle.simulator_recovery.proofs.Lemmas.Ground.FoundHosts.{IsCalm, found_calm, open_calm}
 
 -- ---- how a step begins
 
--- a host that is inside by the clock, and calm, begins as it was
+-- a host that is inside by the clock begins as it was
 module _ (now : ℕ) (host : HostState (List Section)) (inside : is_open (settled now host.link).phase ≡ true) where
   abbrev clocked : HostState (List Section)
   clocked = record host { link = settled now host.link }
@@ -36,13 +35,13 @@ module _ (now : ℕ) (host : HostState (List Section)) (inside : is_open (settle
       choose false true e = refl
       choose a false e = absurd (false≢true e)
 
-  pub begun_stage : IsCalm detection_behaviour now host → (found detection_behaviour now host).host.stage ≡ host.stage
+  pub begun_stage : (beginning detection_behaviour now host).stage ≡ host.stage
   unfolding beginning
-  begun_stage calm = ap (λ (part : HostSoFar (List Section)). part.host.stage) (found_calm detection_behaviour now host calm) ∙ ap (λ (h : HostState (List Section)). h.stage) stands
+  begun_stage = ap (λ (h : HostState (List Section)). h.stage) stands
 
-  pub begun_object : IsCalm detection_behaviour now host → (found detection_behaviour now host).host.object ≡ host.object
+  pub begun_object : (beginning detection_behaviour now host).object ≡ host.object
   unfolding beginning
-  begun_object calm = ap (λ (part : HostSoFar (List Section)). part.host.object) (found_calm detection_behaviour now host calm) ∙ ap (λ (h : HostState (List Section)). h.object) stands
+  begun_object = ap (λ (h : HostState (List Section)). h.object) stands
 
 module _ (links : LawsBelow) (written : WrittenIsRead) (told : IsToldAlways) (laws : LawsBelow) (site : Site) (table : Table) (station : IsStation site) (once : Once site) where
   -- what a detector said, and that it tells of its sections
@@ -74,11 +73,11 @@ module _ (links : LawsBelow) (written : WrittenIsRead) (told : IsToldAlways) (la
     given_so = given_is detection_behaviour (HasNames (section_names site entry)) (spoken site) entry.name site.station.name (detectors_keep site (section_names site entry)) detectors_tell laws.detectors input connection c ends link_is clock_is before.tells
 
     -- in the connection that it was in
-    inside_reports : IsCalm detection_behaviour now c.host → is_open ends.server.link.phase ≡ true → entering input connection ends ≡ None → Reports d done.host after.given
-    inside_reports calm f g = subst (Reports d done.host) (sym (given_so ∙ ap (λ (o : Option ℕ). kept o ends.server.given ++ given_now) g))
+    inside_reports : is_open ends.server.link.phase ≡ true → entering input connection ends ≡ None → Reports d done.host after.given
+    inside_reports f g = subst (Reports d done.host) (sym (given_so ∙ ap (λ (o : Option ℕ). kept o ends.server.given ++ given_now) g))
         (step_reports d now input c.host before.tells.kept_so t ends.server.given (record {
-          none = λ early place. before.reports.none was (ap is_completed (sym (begun_stage now c.host inside calm)) ∙ early) place;
-          fits = λ place x e free. before.reports.fits was place x (ap (λ (l : List Section). slice_get l place) (sym (begun_object now c.host inside calm)) ∙ e) free;
+          none = λ early place. before.reports.none was (ap is_completed (sym (begun_stage now c.host inside)) ∙ early) place;
+          fits = λ place x e free. before.reports.fits was place x (ap (λ (l : List Section). slice_get l place) (sym (begun_object now c.host inside)) ∙ e) free;
         }))
       where
         inside : is_open (settled now c.host.link).phase ≡ true
@@ -98,16 +97,12 @@ module _ (links : LawsBelow) (written : WrittenIsRead) (told : IsToldAlways) (la
     outside_reports shut = record { none = λ opened. absurd (false≢true (sym shut ∙ opened)); fits = λ opened. absurd (false≢true (sym shut ∙ opened)) }
 
     pub controller_reports : Reports d done.host after.given
-    controller_reports = by_behind (is_open done.host.link.phase) refl
+    controller_reports = by_cases (is_open ends.server.link.phase) refl (entering input connection ends) refl
       where
-        by_cases : IsCalm detection_behaviour now c.host → (b : Bool) → is_open ends.server.link.phase ≡ b → (entered : Option ℕ) → entering input connection ends ≡ entered → Reports d done.host after.given
-        by_cases calm b f (Some other) g = entering_reports other g
-        by_cases calm true f None g = inside_reports calm f g
-        by_cases calm false f None g = outside_reports (stays_out detection_behaviour (HasNames (section_names site entry)) (spoken site) entry.name site.station.name (detectors_keep site (section_names site entry)) detectors_tell laws.detectors input connection c ends link_is clock_is before.tells f g)
-
-        by_behind : (b : Bool) → is_open done.host.link.phase ≡ b → Reports d done.host after.given
-        by_behind true opened = by_cases (open_calm detection_behaviour now input c.host opened) (is_open ends.server.link.phase) refl (entering input connection ends) refl
-        by_behind false shut = outside_reports shut
+        by_cases : (b : Bool) → is_open ends.server.link.phase ≡ b → (entered : Option ℕ) → entering input connection ends ≡ entered → Reports d done.host after.given
+        by_cases b f (Some other) g = entering_reports other g
+        by_cases true f None g = inside_reports f g
+        by_cases false f None g = outside_reports (stays_out detection_behaviour (HasNames (section_names site entry)) (spoken site) entry.name site.station.name (detectors_keep site (section_names site entry)) detectors_tell laws.detectors input connection c ends link_is clock_is before.tells f g)
 
   -- ---- a station
 
@@ -136,7 +131,7 @@ module _ (links : LawsBelow) (written : WrittenIsRead) (told : IsToldAlways) (la
     new_points = λ begins position place entry old items e before. tt;
     new_detectors = λ begins occupied place entry old items e before other f. record {
       tells = (tells_keep site laws).new_detectors begins occupied place entry old items e (λ x g. (before x g).tells) other f;
-      reports = closed_reports (says links written site table station once place other f) (new_detector site begins occupied entry) items.given (new_closed detection_behaviour _ _ _ _ _ _ _ _);
+      reports = closed_reports (says links written site table station once place other f) (new_detector site begins occupied entry) items.given (new_closed detection_behaviour _ _ _ _ _ _ _);
     };
   }
 
@@ -152,7 +147,7 @@ module _ (links : LawsBelow) (written : WrittenIsRead) (told : IsToldAlways) (la
         let found = mapped_at (λ detector. first_controller (new_detector site at_zero outset.occupancies detector)) site.detectors place c e
         in record {
           tells = (tells_first.telling_first site laws table outset).of_detectors place c e entry f;
-          reports = closed_reports (says links written site table station once place entry f) c.host _ (ap (λ (x : ClockedControllerState (List Section)). is_open x.host.link.phase) found.2 ∙ new_closed detection_behaviour _ _ _ _ _ _ _ _);
+          reports = closed_reports (says links written site table station once place entry f) c.host _ (ap (λ (x : ClockedControllerState (List Section)). is_open x.host.link.phase) found.2 ∙ new_closed detection_behaviour _ _ _ _ _ _ _);
         };
   }
 

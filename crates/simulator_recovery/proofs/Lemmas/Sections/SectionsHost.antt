@@ -1,11 +1,11 @@
 -- What a step of a detector's host gives tells of its sections as they are.
 use Rattle.simulator_recovery.proofs.Words.Basics.{◌≡◌, ◌⊎◌, inl, inr, ℕ, ◌∙◌, Bool, true, false, List, [], ◌∷◌, ◌++◌, append-nil, map, Option, Some, None, slice_get, if◌then◌else◌, refl, sym, ap, subst, All, false≢true}
-use Rattle.simulator_recovery.proofs.Words.Links.{settled, Each, is_open}
-use Rattle.simulator_recovery.proofs.Words.Controllers.{reading, HostSoFar, HostState, is_completed, items_given, Keeps, ObjectCall, Ticks, object_after_all, reports_paid, beginning, given as given_in, host_step, IsToldIn, IsVersionAnswer, calls_begun, contacts_of, has_lost, item_of, loss_where, Input, Report, detection_behaviour, losing, settled as settled_section, Section, found, restrictive_from, loses_behind}
+use Rattle.simulator_recovery.proofs.Words.Links.{alive_until, settled, Each, is_open}
+use Rattle.simulator_recovery.proofs.Words.Controllers.{reading, HostSoFar, HostState, is_completed, items_given, Keeps, ObjectCall, Ticks, object_after_all, reports_paid, beginning, given as given_in, host_step, IsToldIn, IsVersionAnswer, calls_begun, contacts_of, has_lost, item_of, loss_where, Input, Report, detection_behaviour, losing, settled as settled_section, Section}
 use Rattle.simulator_recovery.proofs.Words.Interlockings.{told_by, told_by_all}
 use Rattle.simulator_recovery.proofs.Words.Recovery.{is_occupied, told_behind, told_in, HasNames}
 use Rattle.simulator_recovery.proofs.Lemmas.Talk.ControllerTells.{item_is}
-use Rattle.simulator_recovery.proofs.Lemmas.Ground.HostKeeps.{Kept, step_keeps, finds as finds_kept}
+use Rattle.simulator_recovery.proofs.Lemmas.Ground.HostKeeps.{Kept, begins as begins_kept, step_keeps}
 use Rattle.simulator_recovery.proofs.Lemmas.Ground.AtLink.{mapped}
 use Rattle.simulator_recovery.proofs.Lemmas.Ground.EndCalls.{each_both, each_mapped}
 use Rattle.simulator_recovery.proofs.Lemmas.Sections.SectionsCalls.{DetectorSays, EachOnly, Fits, IsElsewhere, answers_none, come_back, come_elsewhere, each_only, item, names_come, own_only, paid_fits, paid_only, told, told_both}
@@ -16,14 +16,10 @@ unfolding object_after_all
 after_both [] other list = refl
 after_both (first ∷ one) other list = after_both one other _
 
--- what begins a step: a loss that the clock rules bring, and one of a link that isn't caught up any more
-pub at_first : (lost behind : Bool) (now : ℕ) (list : List Section) → object_after_all detection_behaviour (loss_where lost ++ Ticks now ∷ loss_where behind) list
-    ≡ (if behind then losing (if lost then losing list else list) else (if lost then losing list else list))
+pub at_first : (lost : Bool) (now : ℕ) (list : List Section) → object_after_all detection_behaviour (loss_where lost ++ Ticks now ∷ []) list ≡ (if lost then losing list else list)
 unfolding object_after_all
-at_first true true now list = refl
-at_first true false now list = refl
-at_first false true now list = refl
-at_first false false now list = refl
+at_first true now list = refl
+at_first false now list = refl
 
 at_last : (lost : Bool) (moment : ℕ) (list : List Section) → object_after_all detection_behaviour (loss_where lost ++ Keeps moment ∷ []) list ≡ (if lost then losing list else list)
 unfolding object_after_all
@@ -44,13 +40,13 @@ module _ (d : DetectorSays) where
     part = host_step detection_behaviour now input host
 
     abbrev pub begun : HostState (List Section)
-    begun = (found detection_behaviour now host).host
+    begun = beginning detection_behaviour now host
 
     abbrev heard : HostState (List Section)
     heard = (given_in detection_behaviour now input begun).host
 
     pub begun_kept : KeptHost begun
-    begun_kept = finds_kept detection_behaviour (HasNames d.names) d.version d.own_name d.peer_name d.keep now host kept_so
+    begun_kept = begins_kept detection_behaviour (HasNames d.names) d.version d.own_name d.peer_name d.keep now host kept_so
 
     item_there : item_of part.host ≡ item d
     item_there = item_is detection_behaviour (HasNames d.names) d.version d.own_name d.peer_name d.keep part.host (step_keeps detection_behaviour (HasNames d.names) d.version d.own_name d.peer_name d.keep now input host kept_so)
@@ -66,12 +62,12 @@ module _ (d : DetectorSays) where
     come_named = names_come d now t.comes t.are_coming begun.object begun_kept.object
 
     abbrev last : List ObjectCall
-    last = loss_where t.is_lost ++ Keeps (restrictive_from part.host) ∷ []
+    last = loss_where t.is_lost ++ Keeps (alive_until part.host.link) ∷ []
 
     object_so : part.host.object ≡ (if t.is_lost then losing paid else paid)
-    object_so = t.object_is ∙ (after_both (calls_begun detection_behaviour now host) ((t.comes ++ t.pays) ++ last) host.object
+    object_so = t.object_is ∙ (after_both (calls_begun now host) ((t.comes ++ t.pays) ++ last) host.object
         ∙ (ap (λ (l : List Section). object_after_all detection_behaviour ((t.comes ++ t.pays) ++ last) l) (sym t.begun_is)
-        ∙ (after_both (t.comes ++ t.pays) last begun.object ∙ (ap (object_after_all detection_behaviour last) (after_both t.comes t.pays begun.object) ∙ at_last t.is_lost (restrictive_from part.host) paid))))
+        ∙ (after_both (t.comes ++ t.pays) last begun.object ∙ (ap (object_after_all detection_behaviour last) (after_both t.comes t.pays begun.object) ∙ at_last t.is_lost (alive_until part.host.link) paid))))
 
     pub object_open : is_open part.host.link.phase ≡ true → part.host.object ≡ paid
     object_open opened = object_so ∙ ap (λ b. if b then losing paid else paid) (t.stays opened)
@@ -146,14 +142,12 @@ module _ (d : DetectorSays) where
 
     -- a section that owes nothing does so as a step begins
     pub begun_there : (place : ℕ) (x : Section) → slice_get host.object place ≡ Some x → x.owes ≡ false → (y : Section) × (slice_get begun.object place ≡ Some y) × (y.occupancy ≡ x.occupancy) × (y.owes ≡ false)
-    begun_there place x there free = subst (λ (l : List Section). (y : Section) × (slice_get l place ≡ Some y) × (y.occupancy ≡ x.occupancy) × (y.owes ≡ false)) (sym (t.begun_is ∙ at_first (has_lost (record host { link = settled now host.link })) (loses_behind now (beginning detection_behaviour now host)) now host.object))
-        (by_loss (has_lost (record host { link = settled now host.link })) (loses_behind now (beginning detection_behaviour now host)))
+    begun_there place x there free = subst (λ (l : List Section). (y : Section) × (slice_get l place ≡ Some y) × (y.occupancy ≡ x.occupancy) × (y.owes ≡ false)) (sym (t.begun_is ∙ at_first (has_lost (record host { link = settled now host.link })) now host.object))
+        (by_loss (has_lost (record host { link = settled now host.link })))
       where
-        by_loss : (lost behind : Bool) → (y : Section) × (slice_get (if behind then losing (if lost then losing host.object else host.object) else (if lost then losing host.object else host.object)) place ≡ Some y) × (y.occupancy ≡ x.occupancy) × (y.owes ≡ false)
-        by_loss false false = (x, there, refl, free)
-        by_loss true false = (settled_section x, mapped settled_section host.object place x there, refl, refl)
-        by_loss false true = (settled_section x, mapped settled_section host.object place x there, refl, refl)
-        by_loss true true = (settled_section (settled_section x), mapped settled_section (losing host.object) place (settled_section x) (mapped settled_section host.object place x there), refl, refl)
+        by_loss : (b : Bool) → (y : Section) × (slice_get (if b then losing host.object else host.object) place ≡ Some y) × (y.occupancy ≡ x.occupancy) × (y.owes ≡ false)
+        by_loss false = (x, there, refl, free)
+        by_loss true = (settled_section x, mapped settled_section host.object place x there, refl, refl)
 
     -- ---- a section of which nothing comes
 

@@ -1,7 +1,7 @@
 -- While no contact comes a detector tells of its sections at most what it owes, after its initialisation.
 use Rattle.simulator_recovery.proofs.Words.Basics.{◌≡◌, inl, inr, ℕ, zero, suc, ◌+◌, ◌≤◌, ◌∙◌, Bool, true, false, List, [], ◌∷◌, ◌++◌, length, map, Option, Some, None, slice_get, if◌then◌else◌, refl, sym, ap, subst, arith, option_map, All, false≢true, length-append, none-some, same_Some}
 use Rattle.simulator_recovery.proofs.Words.Links.{settled, Each, kept, reading_of, Ends, LinkState, is_open}
-use Rattle.simulator_recovery.proofs.Words.Controllers.{called_all, entering, reading, Match, NoMatch, InitialisationCompleted, VersionAnswer, HostSoFar, HostState, fallen, is_completed, said, items_given, Keeps, Loses, ObjectCall, Pays, Senses, Takes, Ticks, contacts_in, object_after_all, one_of, reports_paid, beginning, host_step, initial_status, most_objects, report_then, AreComing, ArePayments, AreSomeOf, IsToldIn, IsVersionAnswer, contacts_of, has_lost, initialisation, Input, Report, Stage, detection_behaviour, losing, owing, status_of, Section, found, loses_behind}
+use Rattle.simulator_recovery.proofs.Words.Controllers.{called_all, entering, reading, Match, NoMatch, InitialisationCompleted, VersionAnswer, HostSoFar, HostState, fallen, is_completed, said, items_given, Keeps, Loses, ObjectCall, Pays, Senses, Takes, Ticks, contacts_in, object_after_all, one_of, reports_paid, beginning, host_step, initial_status, most_objects, report_then, AreComing, ArePayments, AreSomeOf, IsToldIn, IsVersionAnswer, contacts_of, has_lost, initialisation, Input, Report, Stage, detection_behaviour, losing, owing, status_of, Section}
 use Rattle.simulator_recovery.proofs.Words.Interlockings.{told_by, told_by_all, Table}
 use Rattle.simulator_recovery.proofs.Words.Stations.{DetectorEntry, Site, Once, IsStation, step_of, ClockedControllerState}
 use Rattle.simulator_recovery.proofs.Words.Recovery.{section_names, HasNames, OwedFit, SaidAll, SaidBy, LawsBelow}
@@ -21,7 +21,6 @@ use Rattle.simulator_recovery.proofs.Lemmas.Sections.SectionsClient.{all_both}
 use Rattle.simulator_recovery.proofs.Lemmas.Sections.SectionsWindow.{IsIdle, few_come, idle_step, losing_none, many_few, owed_many, paid_many}
 use Rattle.simulator_recovery.proofs.Lemmas.Talk.AlwaysTold.{TellsDetector, keeps as tells_keep}
 use Rattle.simulator_recovery.proofs.Lemmas.Talk.Standing.{detectors_tell, sections_told}
-use Rattle.simulator_recovery.proofs.Lemmas.Ground.FoundHosts.{IsCalm, found_calm, open_calm}
 
 -- ---- what is owed
 
@@ -234,40 +233,30 @@ module _ (d : DetectorSays) where
     part = host_step detection_behaviour now input host
 
     abbrev begun : HostState (List Section)
-    begun = (found detection_behaviour now host).host
-
-    begun_object : begun.object
-        ≡ (if loses_behind now (beginning detection_behaviour now host) then losing (if has_lost (record host { link = settled now host.link }) then losing host.object else host.object)
-        else (if has_lost (record host { link = settled now host.link }) then losing host.object else host.object))
-    begun_object = t.begun_is ∙ at_first (has_lost (record host { link = settled now host.link })) (loses_behind now (beginning detection_behaviour now host)) now host.object
+    begun = beginning detection_behaviour now host
 
     begun_few : owed_many begun.object ≤ owed_many host.object
-    begun_few = subst (λ (l : List Section). owed_many l ≤ owed_many host.object) (sym begun_object) (by_loss (has_lost (record host { link = settled now host.link })) (loses_behind now (beginning detection_behaviour now host)))
+    begun_few = subst (λ (l : List Section). owed_many l ≤ owed_many host.object) (sym (t.begun_is ∙ at_first (has_lost (record host { link = settled now host.link })) now host.object))
+        (by_loss (has_lost (record host { link = settled now host.link })))
       where
-        by_loss : (lost behind : Bool) → owed_many (if behind then losing (if lost then losing host.object else host.object) else (if lost then losing host.object else host.object)) ≤ owed_many host.object
-        by_loss true true = let none = losing_none (losing host.object) in omega (arith, none)
-        by_loss false true = let none = losing_none host.object in omega (arith, none)
-        by_loss true false = let none = losing_none host.object in omega (arith, none)
-        by_loss false false = omega arith
+        by_loss : (b : Bool) → owed_many (if b then losing host.object else host.object) ≤ owed_many host.object
+        by_loss true = let none = losing_none host.object in omega (arith, none)
+        by_loss false = omega arith
 
     -- nothing, where the initialisation isn't completed as the step begins
-    stage_begun : IsCalm detection_behaviour now host → begun.stage ≡ (if has_lost (record host { link = settled now host.link }) then Stage.Outside else host.stage)
+    stage_begun : begun.stage ≡ (if has_lost (record host { link = settled now host.link }) then Stage.Outside else host.stage)
     unfolding beginning fallen
-    stage_begun calm = ap (λ (first : HostSoFar (List Section)). first.host.stage) (found_calm detection_behaviour now host calm) ∙ choose (has_lost (record host { link = settled now host.link }))
+    stage_begun = choose (has_lost (record host { link = settled now host.link }))
       where
         choose : (b : Bool) → (if b then record host { link = settled now host.link; stage = Stage.Outside; object = losing host.object } else record host { link = settled now host.link }).stage
             ≡ (if b then Stage.Outside else host.stage)
         choose true = refl
         choose false = refl
 
-    begun_none : IsCalm detection_behaviour now host → IsIdle host → is_completed begun.stage ≡ false → owed_many begun.object ≡ 0
-    begun_none calm idle early = subst (λ (l : List Section). owed_many l ≡ 0) (sym begun_object)
-        (by_behind (loses_behind now (beginning detection_behaviour now host)) (by_loss (has_lost (record host { link = settled now host.link })) (ap is_completed (sym (stage_begun calm)) ∙ early)))
+    begun_none : IsIdle host → is_completed begun.stage ≡ false → owed_many begun.object ≡ 0
+    begun_none idle early = subst (λ (l : List Section). owed_many l ≡ 0) (sym (t.begun_is ∙ at_first (has_lost (record host { link = settled now host.link })) now host.object))
+        (by_loss (has_lost (record host { link = settled now host.link })) (ap is_completed (sym stage_begun) ∙ early))
       where
-        by_behind : {list : List Section} (b : Bool) → owed_many list ≡ 0 → owed_many (if b then losing list else list) ≡ 0
-        by_behind {list} true none = losing_none list
-        by_behind false none = none
-
         by_loss : (b : Bool) → is_completed (if b then Stage.Outside else host.stage) ≡ false → owed_many (if b then losing host.object else host.object) ≡ 0
         by_loss true e = losing_none host.object
         by_loss false e = idle e
@@ -306,7 +295,7 @@ module _ (d : DetectorSays) where
             let own = subst (λ (reports : List Report). reported reports ≤ length d.names) (sym t.says.own_is)
             (own_few begun.object t.says.answers t.says.begins (begun_kept d now input host kept_so t).object (answers_so d now input host kept_so t) t.says.are_some)
             in let before = early e
-            in let none = begun_none (open_calm detection_behaviour now input host opened) idle e
+            in let none = begun_none idle e
             in omega (arith, whole, reports_few, after, came, own, before, none, enough)
 
 -- no contact
@@ -367,8 +356,8 @@ module _ (laws : LawsBelow) (site : Site) (table : Table) (station : IsStation s
     step_few was opened completed = subst (λ (given : List (List ℕ)). tellings d given + owed_many done.host.object ≤ bound) (sym given_so)
         (by_cases (is_open ends.server.link.phase) refl (entering input connection ends) refl)
       where
-        from : (start : List (List ℕ)) → (is_completed (found detection_behaviour now c.host).host.stage ≡ true → tellings d start + owed_many c.host.object ≤ bound)
-            → (is_completed (found detection_behaviour now c.host).host.stage ≡ false → tellings d start ≡ 0)
+        from : (start : List (List ℕ)) → (is_completed (beginning detection_behaviour now c.host).stage ≡ true → tellings d start + owed_many c.host.object ≤ bound)
+            → (is_completed (beginning detection_behaviour now c.host).stage ≡ false → tellings d start ≡ 0)
             → tellings d (start ++ given_now) + owed_many done.host.object ≤ bound
         from start late early = step_tells d now input c.host tells.kept_so (laws.detector_step_is_told_to_the_object now input c.host) quiet start bound opened completed enough idle late early
 
@@ -383,8 +372,8 @@ module _ (laws : LawsBelow) (site : Site) (table : Table) (station : IsStation s
             was_open : is_open c.host.link.phase ≡ true
             was_open = (settled_open now c.host.link opened_then).1
 
-            still : (found detection_behaviour now c.host).host.stage ≡ c.host.stage
-            still = begun_stage now c.host opened_then (open_calm detection_behaviour now input c.host opened)
+            still : (beginning detection_behaviour now c.host).stage ≡ c.host.stage
+            still = begun_stage now c.host opened_then
 
         by_cases : (b : Bool) → is_open ends.server.link.phase ≡ b → (entered : Option ℕ) → entering input connection ends ≡ entered
             → tellings d (kept entered ends.server.given ++ given_now) + owed_many done.host.object ≤ bound

@@ -98,7 +98,7 @@ module _ (laws : LawsBelow) (sections : LawsBelow) (between : List Event) (flowi
       = record {
         behind = b;
         opens = rounds_open link rounds next start.before works
-            (rounds_stay laws sited station once is_table link below_links rounds next start.before start.is (below start.before start.has.are));
+            (rounds_stay laws sited station once is_table link below_links rounds next start.is);
         below = b.below below;
         long = omega (arith, long);
       }

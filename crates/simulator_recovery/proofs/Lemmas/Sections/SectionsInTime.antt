@@ -3,9 +3,9 @@ use Rattle.simulator_recovery.proofs.Words.Basics.{◌≡◌, ℕ, suc, ◌+◌,
 use Rattle.simulator_recovery.proofs.Words.Links.{speaking_rounds, Each, Links, LinksEvent, run_links}
 use Rattle.simulator_recovery.proofs.Words.Interlockings.{IsReportedIn, IsTableOf, SitedTable, Table}
 use Rattle.simulator_recovery.proofs.Words.Stations.{Site, Once, IsStation, Event, NodeId, Flowing, round, round_of_time, detector_link, links, WorldState, Played, after, IsReached}
-use Rattle.simulator_recovery.proofs.Words.Recovery.{ConfirmsAtOnce, HasSpokenAlone, HaveRoomOn, StayBelowOn, StaysBelowLimit, behind_time, calls_of_round, event_of, links_behind, time_of_round, IsReadyOn, ready_rounds, HasTime, IsWork, all_tried, good_rounds, IsKnownAsInTheField, IsKnownAsItIs, LeavesSection, OwesNone, SpeaksAloneIn, section_rounds, LawsBelow, IsCalmOn, IsCalmRound}
+use Rattle.simulator_recovery.proofs.Words.Recovery.{ConfirmsAtOnce, HasSpokenAlone, HaveRoomOn, StayBelowOn, StaysBelowLimit, behind_time, calls_of_round, event_of, links_behind, time_of_round, IsReadyOn, ready_rounds, HasTime, IsWork, all_tried, good_rounds, IsKnownAsInTheField, IsKnownAsItIs, LeavesSection, OwesNone, SpeaksAloneIn, section_rounds, LawsBelow}
 use Rattle.simulator_recovery.proofs.Lemmas.Rounds.LinkRounds.{after_both, after_each, events_both, round_tried}
-use Rattle.simulator_recovery.proofs.Lemmas.Ground.EndCalls.{each_both, each_front}
+use Rattle.simulator_recovery.proofs.Lemmas.Ground.EndCalls.{each_both}
 use Rattle.simulator_recovery.proofs.Lemmas.Links.Ready.{Last, count_front, last_of}
 use Rattle.simulator_recovery.proofs.Lemmas.Rounds.Rounds.{behind_time_are, events_are, IsAt, rounds_reached}
 use Rattle.simulator_recovery.proofs.Lemmas.Sections.SectionsInRound.{IsCalmHere, LeadsBy, paid_behind, stays_none}
@@ -39,16 +39,9 @@ room_alone link last flowing before room = subst (λ (calls : List LinksEvent). 
     timed : Played
     timed = after flowing.state (round_of_time flowing.state.sited.site)
 
-calm_alone : (link : ℕ) (last : List Event) (flowing : Flowing) → IsCalmRound link last flowing → IsCalmRound link [] flowing
-calm_alone link last flowing calm trains = subst (Each (IsCalmOn flowing.state.sited.site link)) (sym (events_both (map event_of (behind_time flowing)) [] timed ∙ append-nil _))
-    (each_front (IsCalmOn flowing.state.sited.site link) _ _ (subst (Each (IsCalmOn flowing.state.sited.site link)) (events_both (map event_of (behind_time flowing)) last timed) (calm trains)))
-  where
-    timed : Played
-    timed = after flowing.state (round_of_time flowing.state.sited.site)
-
 below_alone : (link : ℕ) (rounds : List (List Event)) (last : List Event) (flowing : Flowing) (before : Links) → StayBelowOn link (rounds ++ last ∷ []) flowing before
     → StayBelowOn link (rounds ++ [] ∷ []) flowing before
-below_alone link [] last flowing before below = ((room_alone link last flowing (run_links (time_of_round flowing) before) below.0.0, calm_alone link last flowing below.0.1), tt)
+below_alone link [] last flowing before below = (room_alone link last flowing (run_links (time_of_round flowing) before) below.0, tt)
 below_alone link (first ∷ rounds) last flowing before below = (below.0, below_alone link rounds last (all_tried first (round flowing)) (links_behind first flowing before) below.1)
 
 -- ---- rounds as events

@@ -2,10 +2,10 @@
 use Rattle.simulator_recovery.proofs.Words.Basics.{◌≡◌, ℕ, List, map, Option, Some, None, slice_get, refl}
 use Rattle.simulator_recovery.proofs.Words.Links.{OutboxState, reading, Key}
 use Rattle.simulator_recovery.proofs.Words.Controllers.{Aspect, Side}
-use Rattle.simulator_recovery.proofs.Words.Interlockings.{LinkCall, begun, commanding, hearing, ticking, commanded_by, obeyed, refusal, come_to, is_stop_due, moving_one, proceeding, ruled, withdrawing, KnownDetectorState, changed, Commands, Datagram, Input, Tick, addressed, all_clocked, clocked_detector, detector_hearing, detector_ticking, given, known_point_hearing, known_point_ticking, known_signal_hearing, known_signal_ticking, looking, looks, node_hearing, occupied_heard, stepped, ticked, Detector, Node, Point, Signal, StepSoFar, detector_after, giving_aspect, giving_move, noted, with_detector, with_one, with_route, Need, Table, is_signal_ready, Command, Refusal, Phase, closing_behind, known_signal_closing, known_point_closing, detector_closing}
+use Rattle.simulator_recovery.proofs.Words.Interlockings.{LinkCall, begun, commanding, hearing, ticking, commanded_by, obeyed, refusal, come_to, count, is_stop_due, moving_one, proceeding, ruled, withdrawing, KnownDetectorState, changed, Commands, Datagram, Input, Tick, addressed, all_clocked, clocked_detector, detector_hearing, detector_ticking, given, known_point_hearing, known_point_ticking, known_signal_hearing, known_signal_ticking, looking, looks, node_hearing, occupied_heard, stepped, ticked, watching, Detector, Node, Point, Signal, StepSoFar, detector_after, giving_aspect, giving_move, noted, with_detector, with_one, with_route, Need, Table, is_signal_ready, Command, Refusal, Phase}
 use Rattle.simulator_spec.specs.ixl_client.declared.command.Command.{Command as ClientCommand}
 use Rattle.simulator_recovery.proofs.Lemmas.Ground.AspectCalls.{noted_at}
-use Rattle.simulator_recovery.proofs.Lemmas.Ground.DueShapes.{along_keeps, looking_turns, one_keeps, route_holds, ticked_keeps, turned_keeps, where_both, closing_keeps, found_in, seen_turns}
+use Rattle.simulator_recovery.proofs.Lemmas.Ground.DueShapes.{along_keeps, looking_turns, one_keeps, over_keeps, route_holds, ticked_keeps, turned_keeps, watching_turns, where_both}
 use Rattle.simulator_recovery.proofs.Lemmas.Ground.MovedAtOnce.{moved_keeps}
 
 -- a detector hears a datagram, and what is known of its sections goes on by what it tells
@@ -15,17 +15,9 @@ heard_by now bytes known outbox = let done = hearing now bytes (begun known.clie
 abbrev pub ticked_by : ℕ → KnownDetectorState → OutboxState → KnownDetectorState
 ticked_by now known outbox = detector_after known.occupied (ticking now (begun known.client outbox)).client
 
-abbrev pub closed_by : ℕ → KnownDetectorState → OutboxState → KnownDetectorState
-closed_by now known outbox = detector_after known.occupied (closing_behind now (begun known.client outbox)).client
-
 -- What each part of a step keeps of the detectors, and of the calls of the links so far: of one whose clocks alone have acted, and of each.
 pub record SectionsKeep (now : ℕ) (Clocked Holds : List KnownDetectorState → List (Node × LinkCall) → Type 0) : Type 0 where
   pub weaker : (detectors : List KnownDetectorState) (calls : List (Node × LinkCall)) → Clocked detectors calls → Holds detectors calls
-  -- a link that isn't caught up any more is closed
-  pub closes : (place : ℕ) (known : KnownDetectorState) (outbox : OutboxState) (detectors : List KnownDetectorState) (calls : List (Node × LinkCall)) → slice_get detectors place ≡ Some known → Clocked detectors calls
-      → Clocked (changed (λ old. closed_by now known outbox) place detectors) (noted_at (Detector place) (closing_behind now (begun known.client outbox)).calls calls)
-  pub signal_closes : (place : ℕ) (more : List LinkCall) (detectors : List KnownDetectorState) (calls : List (Node × LinkCall)) → Clocked detectors calls → Clocked detectors (noted_at (Signal place) more calls)
-  pub point_closes : (place : ℕ) (more : List LinkCall) (detectors : List KnownDetectorState) (calls : List (Node × LinkCall)) → Clocked detectors calls → Clocked detectors (noted_at (Point place) more calls)
   pub hears : (place : ℕ) (known : KnownDetectorState) (bytes : List ℕ) (outbox : OutboxState) (detectors : List KnownDetectorState) (calls : List (Node × LinkCall)) → slice_get detectors place ≡ Some known → Clocked detectors calls
       → Holds (changed (λ old. heard_by now bytes known outbox) place detectors) (noted_at (Detector place) (hearing now bytes (begun known.client outbox)).calls calls)
   pub ticks : (place : ℕ) (known : KnownDetectorState) (outbox : OutboxState) (detectors : List KnownDetectorState) (calls : List (Node × LinkCall)) → slice_get detectors place ≡ Some known → Holds detectors calls
@@ -43,22 +35,6 @@ module _ (now : ℕ) (table : Table) (Clocked Holds : List KnownDetectorState �
 
   weaker : (part : StepSoFar) → HeldFirst part → Held part
   weaker part all = keep.weaker part.ixl.detectors part.calls all
-
-  -- ---- links that are closed
-
-  signal_closes : (place : ℕ) (part : StepSoFar) → HeldFirst part → HeldFirst (known_signal_closing now place part)
-  unfolding known_signal_closing
-  signal_closes place part all = one_keeps HeldFirst (slice_get part.ixl.known_signals place) _ part
-      (λ known e. keep.signal_closes place (closing_behind now (begun known.client part.outbox)).calls part.ixl.detectors part.calls all) all
-
-  point_closes : (place : ℕ) (part : StepSoFar) → HeldFirst part → HeldFirst (known_point_closing now place part)
-  unfolding known_point_closing
-  point_closes place part all = one_keeps HeldFirst (slice_get part.ixl.known_points place) _ part
-      (λ known e. keep.point_closes place (closing_behind now (begun known.client part.outbox)).calls part.ixl.detectors part.calls all) all
-
-  detector_closes : (place : ℕ) (part : StepSoFar) → HeldFirst part → HeldFirst (detector_closing now place part)
-  unfolding detector_closing
-  detector_closes place part all = one_keeps HeldFirst (slice_get part.ixl.detectors place) _ part (λ known e. keep.closes place known part.outbox part.ixl.detectors part.calls e all) all
 
   -- commands that signals and points are given
   aspect_held : (signal : ℕ) (aspect : Aspect) (part : StepSoFar) → Held part → Held (giving_aspect now signal aspect part)
@@ -153,5 +129,5 @@ module _ (now : ℕ) (table : Table) (Clocked Holds : List KnownDetectorState �
   -- from detectors at which the clock alone has acted
   pub step_held : (key : Key) (input : Input) (part : StepSoFar) → Clocked (map (clocked_detector now) part.ixl.detectors) part.calls → Held (stepped now table key input part)
   unfolding stepped all_clocked
-  step_held key input part all = ticked_held input _ (ruled_held _ (seen_turns Held now table (λ number change part all. all) _
-      (given_held key input (found_in now part) (closing_keeps HeldFirst now signal_closes point_closes detector_closes (record part { ixl = all_clocked now part.ixl }) all))))
+  step_held key input part all = ticked_held input _ (ruled_held _ (over_keeps Held (watching table) (watching_turns Held now table (λ number change part all. all)) (count table) _
+      (given_held key input (record part { ixl = all_clocked now part.ixl }) all)))

@@ -1,7 +1,7 @@
 -- What was told of a section comes over with the items of its link.
 use Rattle.simulator_recovery.proofs.Words.Basics.{◌≡◌, ◌≢◌, ◌⊎◌, inl, inr, ℕ, ◌<◌, ◌≤◌, ◌==◌, ◌∙◌, Bool, true, false, List, [], ◌∷◌, ◌++◌, append_assoc, append-nil, length, map, Option, Some, None, slice_get, slice_index_or, refl, sym, ap, subst, arith, contains, nat_tests, none-some, same_Some, slice_get_within}
 use Rattle.simulator_recovery.proofs.Words.Links.{settled, Each, AreTimely, kept, reading_of, AreLinks, Links, run_links, seen, Ends, IsCounted, IsSafe, LinkState, is_open, is_up}
-use Rattle.simulator_recovery.proofs.Words.Controllers.{called_all, entering, reading, Occupancy, Clear, Occupied, Protocol, HostSoFar, HostState, items_given, contacts_of, Input as HostInput, detection_behaviour, Section, found}
+use Rattle.simulator_recovery.proofs.Words.Controllers.{called_all, entering, reading, Occupancy, Clear, Occupied, Protocol, HostSoFar, HostState, items_given, beginning, contacts_of, Input as HostInput, detection_behaviour, Section}
 use Rattle.simulator_recovery.proofs.Words.Interlockings.{IsReportedIn, IsTableOf, as_section, ClientState, PeerState, is_ready, told_by, told_by_all, At, KnownDetectorState, KnownPointState, KnownSignalState, Table}
 use Rattle.simulator_recovery.proofs.Words.Stations.{DetectorEntry, Site, Once, IsStation, SectionId, Event, step_of, happens, AreLinksOf, ServerEnd, end_of_server, names_at, detector_link, links, refusal, CanHappen, after_all, ClockedControllerState, WorldState, events_of, links_in, client_states, IsReached}
 use Rattle.simulator_recovery.proofs.Words.Recovery.{HasHandedOver, AreInOne, IsUpOn, peer_for, section_names, IsReadyOn, IsKnownAs, IsKnownAsItIs, KnowsByReports, LeavesSection, OwesNone, is_occupied, is_told, told_behind, told_in, HasNames, LawsBelow}
@@ -110,7 +110,7 @@ module _ (laws : LawsBelow) (site : Site) (table : Table) (station : IsStation s
     abbrev given_now : List (List ℕ)
     given_now = items_given now done.calls (settled now c.host.link)
 
-    first : (y : Section) × (slice_get (found detection_behaviour now c.host).host.object place ≡ Some y) × (y.occupancy ≡ q.stays.section.occupancy) × (y.owes ≡ false)
+    first : (y : Section) × (slice_get (beginning detection_behaviour now c.host).object place ≡ Some y) × (y.occupancy ≡ q.stays.section.occupancy) × (y.owes ≡ false)
     first = begun_there d now input c.host q.tells.kept_so (laws.detector_step_is_told_to_the_object now input c.host) place q.stays.section q.stays.there q.stays.free
 
     occupancy_is : first.0.occupancy ≡ occupancy

@@ -1,7 +1,7 @@
 -- The detectors of a station have their sections as they are in the field.
 use Rattle.simulator_recovery.proofs.Words.Basics.{◌≡◌, ◌≢◌, ◌⊎◌, inl, inr, ℕ, zero, suc, ◌<◌, ◌∙◌, Bool, true, false, List, [], ◌∷◌, ◌++◌, append-nil, length, map, Option, Some, None, slice_get, slice_index_or, slice_set, if◌then◌else◌, refl, sym, ap, subst, arith, flat_map, false≢true, none-some, same_Some, slice_get-get_or}
-use Rattle.simulator_recovery.proofs.Words.Links.{settled, reading_of}
-use Rattle.simulator_recovery.proofs.Words.Controllers.{Occupancy, Clear, Occupied, HostState, keeping, new_host, Keeps, Loses, ObjectCall, Pays, Senses, Takes, Ticks, contacts_in, object_after_all, host_step, ArePayments, calls_begun, calls_in_step, contacts_of, has_lost, loss_where, Input as HostInput, Sense, detection_behaviour, changed as changed_section, is_same, losing, settled as settled_section, with_section, Section, restrictive_from, loses_behind, beginning}
+use Rattle.simulator_recovery.proofs.Words.Links.{alive_until, settled, reading_of}
+use Rattle.simulator_recovery.proofs.Words.Controllers.{Occupancy, Clear, Occupied, HostState, keeping, new_host, Keeps, Loses, ObjectCall, Pays, Senses, Takes, Ticks, contacts_in, object_after_all, host_step, ArePayments, calls_begun, calls_in_step, contacts_of, has_lost, loss_where, Input as HostInput, Sense, detection_behaviour, changed as changed_section, is_same, losing, settled as settled_section, with_section, Section}
 use Rattle.simulator_recovery.proofs.Words.Interlockings.{IsReportedIn, IsTableOf, as_section, Table}
 use Rattle.simulator_recovery.proofs.Words.Stations.{DetectorEntry, Site, Distinct, HasSection, IsDetectorOf, IsStation, SectionId, Event, controller_after, controller_anew, step_of, Beginning, IsOutsetOf, Outset, at_zero, first_controller, named_section, new_detector, world_at, all_later, coming, delivered_to, detector_anew, detector_stepped, happens, interlocking_stepped, made_anew, passed, point_anew, point_stepped, sensed_by, signal_anew, signal_stepped, stepped_at, ticked_at, connection_of, copy_of, detector_link, node_at, after_all, ClockedControllerState, WorldState, IsReached}
 use Rattle.simulator_recovery.proofs.Words.Recovery.{IsKnownAsInTheField, IsKnownAsItIs, SensesAsTheyAre, IsToldAlways}
@@ -129,12 +129,10 @@ pays_none (Senses now contact ∷ others) are = absurd are
 pays_none (Keeps moment ∷ others) are = absurd are
 pays_none (Loses ∷ others) are = absurd are
 
-begun_none : (lost behind : Bool) (now : ℕ) → contacts_in (loss_where lost ++ Ticks now ∷ loss_where behind) ≡ []
+begun_none : (b : Bool) (now : ℕ) → contacts_in (loss_where b ++ Ticks now ∷ []) ≡ []
 unfolding contacts_in
-begun_none true true now = refl
-begun_none true false now = refl
-begun_none false true now = refl
-begun_none false false now = refl
+begun_none true now = refl
+begun_none false now = refl
 
 ended_none : (b : Bool) (moment : ℕ) → contacts_in (loss_where b ++ Keeps moment ∷ []) ≡ []
 unfolding contacts_in
@@ -146,13 +144,13 @@ step_from : (told : IsToldAlways) (now : ℕ) (input : HostInput) (host : HostSt
     → (x : Section) × (slice_get host.object i ≡ Some x) × AllTellOf i (contacts_of input) x.occupancy y.occupancy
 step_from told now input host i y e =
     let t = told now input host
-    in let moment = restrictive_from (host_step detection_behaviour now input host).host
+    in let moment = alive_until (host_step detection_behaviour now input host).host.link
     in let during : contacts_in (t.comes ++ t.pays) ≡ contacts_of input = contacts_both t.comes t.pays ∙ ap (λ (l : List Sense). contacts_in t.comes ++ l) (pays_none t.pays t.are_payments) ∙ append-nil (contacts_in t.comes) ∙ t.senses
     in let end : contacts_in ((t.comes ++ t.pays) ++ (loss_where t.is_lost ++ Keeps moment ∷ [])) ≡ contacts_of input =
     contacts_both (t.comes ++ t.pays) (loss_where t.is_lost ++ Keeps moment ∷ []) ∙ ap (λ (l : List Sense). contacts_in (t.comes ++ t.pays) ++ l) (ended_none t.is_lost moment) ∙ append-nil (contacts_in (t.comes ++ t.pays)) ∙ during
-    in let all : contacts_in (calls_in_step detection_behaviour now host (t.comes ++ t.pays) t.is_lost (host_step detection_behaviour now input host).host) ≡ contacts_of input =
-    contacts_both (calls_begun detection_behaviour now host) _ ∙ ap (λ (l : List Sense). l ++ contacts_in ((t.comes ++ t.pays) ++ (loss_where t.is_lost ++ Keeps moment ∷ []))) (begun_none (has_lost (record host { link = settled now host.link })) (loses_behind now (beginning detection_behaviour now host)) now) ∙ end
-    in let found = calls_from (calls_in_step detection_behaviour now host (t.comes ++ t.pays) t.is_lost (host_step detection_behaviour now input host).host) host.object i y (ap (λ (l : List Section). slice_get l i) (sym t.object_is) ∙ e)
+    in let all : contacts_in (calls_in_step now host (t.comes ++ t.pays) t.is_lost (host_step detection_behaviour now input host).host) ≡ contacts_of input =
+    contacts_both (calls_begun now host) _ ∙ ap (λ (l : List Sense). l ++ contacts_in ((t.comes ++ t.pays) ++ (loss_where t.is_lost ++ Keeps moment ∷ []))) (begun_none (has_lost (record host { link = settled now host.link })) now) ∙ end
+    in let found = calls_from (calls_in_step now host (t.comes ++ t.pays) t.is_lost (host_step detection_behaviour now input host).host) host.object i y (ap (λ (l : List Section). slice_get l i) (sym t.object_is) ∙ e)
     in (found.0, found.1, subst (λ (l : List Sense). AllTellOf i l found.0.occupancy y.occupancy) all found.2)
 
 -- ---- one detector for each section

@@ -1,20 +1,19 @@
 -- A detector owes a report only where the window of its link is full.
 use Rattle.simulator_recovery.proofs.Words.Basics.{◌≡◌, ◌⊎◌, inl, inr, ℕ, zero, suc, ◌+◌, ◌-◌, ◌≤◌, ◌∙◌, nat_le, nat_lt, Bool, true, false, not, ◌&&◌, List, [], ◌∷◌, length, Option, Some, None, Result, Ok, Err, slice_get, slice_index_or, if◌then◌else◌, refl, sym, ap, subst, arith, ◌||◌, is_ok, option_map, find, false≢true, nat_tests, none-some, same_Some, slice_get_within}
-use Rattle.simulator_recovery.proofs.Words.Links.{acceptance, answer_to_send, sending_item, ticking, window_size, Step, beating, entered, giving, sending, silent, LinkState, is_open, is_up, Identity, SendFault, NotUp, WindowFull, Heartbeat, Reason}
-use Rattle.simulator_recovery.proofs.Words.Controllers.{writing, HostSoFar, HostState, fallen, is_completed, is_outside, keeping, silent as silent_host, telegram_of, then_do, new_host, beating as beating_host, ending, given as given_in, goes_on, host_step, most_owed, paid, paying, paying_first, posting, Input, Report, Stage, detection_behaviour, losing, owes, owing, settled as settled_section, status_of, Section, after_refusal, closes_when_refused, closing, found, going_on, watched}
+use Rattle.simulator_recovery.proofs.Words.Links.{acceptance, answer_to_send, sending_item, ticking, window_size, Step, beating, entered, giving, sending, silent, LinkState, is_open, is_up, Identity, SendFault, NotUp, WindowFull, Heartbeat}
+use Rattle.simulator_recovery.proofs.Words.Controllers.{writing, HostSoFar, HostState, fallen, is_completed, is_outside, keeping, silent as silent_host, telegram_of, then_do, new_host, beating as beating_host, beginning, ending, given as given_in, goes_on, host_step, most_owed, paid, paying, paying_first, posting, Input, Report, Stage, detection_behaviour, losing, owes, owing, settled as settled_section, status_of, Section}
 use Rattle.simulator_recovery.proofs.Words.Interlockings.{Table}
 use Rattle.simulator_recovery.proofs.Words.Stations.{DetectorEntry, Site, Once, IsDetectorOf, IsStation, SectionId, Event, IsOutsetOf, Outset, world_at, CanHappen, after_all, ClockedControllerState, WorldState, IsStanding, IsWhole, IsReached}
 use Rattle.simulator_recovery.proofs.Words.Recovery.{name_of, section_names, SpeaksAt, HasNames, IsToldAlways}
 use Rattle.simulator_spec.specs.tds_ctl.Sections.{paying as paying_sections}
-use Rattle.simulator_recovery.proofs.Lemmas.Ground.HostKeeps.{heard, finds, from_so}
+use Rattle.simulator_recovery.proofs.Lemmas.Ground.HostKeeps.{begins, heard}
 use Rattle.simulator_recovery.proofs.Lemmas.Talk.ClientLinks.{up_open}
-use Rattle.simulator_recovery.proofs.Lemmas.Ground.LinkCounts.{tick_was_open, close_closes}
+use Rattle.simulator_recovery.proofs.Lemmas.Ground.LinkCounts.{tick_was_open}
 use Rattle.simulator_recovery.proofs.Lemmas.Ground.EndCalls.{at_place, map_length}
-use Rattle.simulator_recovery.proofs.Lemmas.Ground.MatchedEnds.{KeptDetector, OfPoint, OfSignal, detectors_keep, keeps as matched_keep, spoken, StrictDetector}
+use Rattle.simulator_recovery.proofs.Lemmas.Ground.MatchedEnds.{KeptDetector, OfPoint, OfSignal, detectors_keep, keeps as matched_keep, spoken}
 use Rattle.simulator_recovery.proofs.Lemmas.Sections.SectionsCalls.{Owed, none_owed, one_owed, owed_first}
 use Rattle.simulator_recovery.proofs.Lemmas.Ground.StationKeeps.{StationKeeps, all_at, always_kept}
 use Rattle.simulator_recovery.proofs.Lemmas.Talk.AlwaysSaid.{new_closed}
-use Rattle.simulator_recovery.proofs.Lemmas.Ground.ShutLinks.{not_up}
 
 -- ---- a link that refuses an item
 
@@ -26,11 +25,6 @@ module _ (now : ℕ) where
   refused_stays : (item : List ℕ) (l : LinkState) → is_ok (answer_to_send now l) ≡ false → Refuses (sending_item now item l).link
   unfolding answer_to_send sending_item
   refused_stays item l denied = ap (λ (b : Bool). is_ok (acceptance (if b then giving item (entered now l).link else silent (entered now l).link).link)) denied ∙ denied
-
-  -- and once it is closed
-  closed_refuses : (l : LinkState) → is_open l.phase ≡ false → Refuses l
-  unfolding acceptance
-  closed_refuses l shut = rw (not_up l.phase shut) refl
 
   -- and after a tick
   tick_refuses : (l : LinkState) → is_open (ticking now l).link.phase ≡ true → Refuses l → Refuses (ticking now l).link
@@ -122,9 +116,9 @@ abbrev pub IsIdle : HostState (List Section) → Type 0
 IsIdle host = is_completed host.stage ≡ false → owed_many host.object ≡ 0
 
 -- a new host owes nothing
-new_idle : (identity : Identity) (own_name peer_name : List ℕ) (first now : ℕ) (object : List Section) (version : ℕ) (is_strict : Bool) → owed_many (new_host detection_behaviour identity own_name peer_name first now object version is_strict).object ≡ 0
+new_idle : (identity : Identity) (own_name peer_name : List ℕ) (first now : ℕ) (object : List Section) (version : ℕ) → owed_many (new_host detection_behaviour identity own_name peer_name first now object version).object ≡ 0
 unfolding new_host keeping
-new_idle identity own_name peer_name first now object version is_strict = losing_none object
+new_idle identity own_name peer_name first now object version = losing_none object
 
 -- once the initialisation is completed, nothing is owed or the link refuses an item
 abbrev pub OwesByWindow : HostState (List Section) → Type 0
@@ -135,29 +129,10 @@ module _ (now : ℕ) where
   abbrev first_paid : (completed ok : Bool) → Report → HostState (List Section) → HostSoFar (List Section)
   first_paid completed ok report host =
       if not completed then silent_host (paid detection_behaviour host)
-      else (if ok then record (posting now report host) { host = paid detection_behaviour (posting now report host).host }
-      else then_do (posting now report host) (after_refusal detection_behaviour now (answer_to_send now host.link)))
+      else (if ok then record (posting now report host) { host = paid detection_behaviour (posting now report host).host } else posting now report host)
 
   abbrev all_paid : (completed ok : Bool) → ℕ → Report → HostState (List Section) → HostSoFar (List Section)
   all_paid completed ok more report host = if not completed || ok then then_do (first_paid completed ok report host) (paying detection_behaviour now more) else first_paid completed ok report host
-
-  -- a strict detector whose window is full closes its link, and that refuses all
-  refused_after : (why : Result Unit SendFault) (host : HostState (List Section)) → Refuses host.link → Refuses (after_refusal detection_behaviour now why host).host.link
-  unfolding after_refusal
-  refused_after why host refuses = choose (closes_when_refused detection_behaviour why host)
-    where
-      choose : (b : Bool) → Refuses (if b then closing now Reason.Window host else silent_host host).host.link
-      choose true = closed_refuses now _ (close_closes now Reason.Window host.link)
-      choose false = refuses
-
-  -- it leaves the stage
-  refused_stage : (why : Result Unit SendFault) (host : HostState (List Section)) → (after_refusal detection_behaviour now why host).host.stage ≡ host.stage
-  unfolding after_refusal
-  refused_stage why host = choose (closes_when_refused detection_behaviour why host)
-    where
-      choose : (b : Bool) → (if b then closing now Reason.Window host else silent_host host).host.stage ≡ host.stage
-      choose true = refl
-      choose false = refl
 
   abbrev PaysOff : ℕ → Type 0
   PaysOff more = (host : HostState (List Section)) → is_completed host.stage ≡ true → owed_many host.object ≤ more → PaidOff host (paying detection_behaviour now more host).host
@@ -176,7 +151,7 @@ module _ (now : ℕ) where
       paid_first : (s : Section) → find owes host.object ≡ Some s → PaysOff more → (completed ok : Bool) → completed ≡ true → is_ok (answer_to_send now host.link) ≡ ok → PaidOff host (all_paid completed ok more (status_of s) host).host
       paid_first s found later false ok e f = absurd (false≢true e)
       paid_first s found later true true e f = record { done = (later (paid detection_behaviour (posting now (status_of s) host).host) completed (let one = paid_many host.object s found in omega (arith, few, one))).done }
-      paid_first s found later true false e f = record { done = inr (refused_after (answer_to_send now host.link) (posting now (status_of s) host).host (refused_stays now (item (status_of s)) host.link f)) }
+      paid_first s found later true false e f = record { done = inr (refused_stays now (item (status_of s)) host.link f) }
 
       choose : Owed host.object → PaysOff more → PaidOff host (whole (option_map status_of (find owes host.object))).host
       choose (none_owed none same) later = subst (λ (found : Option Section). PaidOff host (whole (option_map status_of found)).host) (sym none) (record { done = inl none })
@@ -196,7 +171,7 @@ module _ (now : ℕ) where
       by_bools : StageKept more → (completed ok : Bool) → (report : Report) → (all_paid completed ok more report host).host.stage ≡ host.stage
       by_bools later false ok report = later (paid detection_behaviour host)
       by_bools later true true report = later (paid detection_behaviour (posting now report host).host)
-      by_bools later true false report = refused_stage (answer_to_send now host.link) (posting now report host).host
+      by_bools later true false report = refl
 
       by_found : (found : Option Report) → StageKept more
           → (if goes_on now found host then then_do (paying_first detection_behaviour now found host) (paying detection_behaviour now more) else paying_first detection_behaviour now found host).host.stage ≡ host.stage
@@ -226,14 +201,14 @@ module _ (now : ℕ) where
 
   -- ---- what is owed after a whole step
 
-  idle_ended : (host : HostState (List Section)) → IsIdle host → IsIdle (ending detection_behaviour now host)
+  idle_ended : (host : HostState (List Section)) → IsIdle host → IsIdle (ending detection_behaviour host)
   unfolding fallen keeping
   idle_ended host is = choose (is_outside host.stage) (is_open host.link.phase)
     where
       fell : HostState (List Section)
       fell = record host { stage = Stage.Outside; object = losing host.object }
 
-      choose : (a b : Bool) → IsIdle (keeping detection_behaviour (watched now (if not a && not b then fell else host)))
+      choose : (a b : Bool) → IsIdle (if not a && not b then fell else host)
       choose true b = is
       choose false true = is
       choose false false = λ early. losing_none host.object
@@ -244,26 +219,26 @@ module _ (now : ℕ) where
   idle_beaten (Input.Datagram bytes) host is = is
   idle_beaten (Input.Sense contact) host is = is
 
-  pub idle_step : (input : Input) (host : HostState (List Section)) → owed_many (given_in detection_behaviour now input (found detection_behaviour now host).host).host.object ≤ most_owed
+  pub idle_step : (input : Input) (host : HostState (List Section)) → owed_many (given_in detection_behaviour now input (beginning detection_behaviour now host)).host.object ≤ most_owed
       → IsIdle (host_step detection_behaviour now input host).host
-  unfolding host_step going_on
+  unfolding host_step
   idle_step input host few = idle_ended (beating_host now input (paying detection_behaviour now most_owed come).host).host (idle_beaten input (paying detection_behaviour now most_owed come).host
       (λ early. drops_all most_owed come (ap is_completed (sym (stage_kept most_owed come)) ∙ early) few))
     where
       come : HostState (List Section)
-      come = (given_in detection_behaviour now input (found detection_behaviour now host).host).host
+      come = (given_in detection_behaviour now input (beginning detection_behaviour now host)).host
 
-  ended : (host : HostState (List Section)) → OwesByWindow host → OwesByWindow (ending detection_behaviour now host)
+  ended : (host : HostState (List Section)) → OwesByWindow host → OwesByWindow (ending detection_behaviour host)
   unfolding fallen keeping
   ended host is = choose (is_outside host.stage) (is_open host.link.phase) refl
     where
       fell : HostState (List Section)
       fell = record host { stage = Stage.Outside; object = losing host.object }
 
-      choose : (a b : Bool) → is_open host.link.phase ≡ b → OwesByWindow (keeping detection_behaviour (watched now (if not a && not b then fell else host)))
+      choose : (a b : Bool) → is_open host.link.phase ≡ b → OwesByWindow (if not a && not b then fell else host)
       choose a true e = at_open a
         where
-          at_open : (c : Bool) → OwesByWindow (keeping detection_behaviour (watched now (if not c && not true then fell else host)))
+          at_open : (c : Bool) → OwesByWindow (if not c && not true then fell else host)
           at_open true = is
           at_open false = is
       choose true false e = is
@@ -281,13 +256,13 @@ module _ (now : ℕ) where
 
   module _ (told : IsToldAlways) (input : Input) (host : HostState (List Section)) where
     abbrev come : HostState (List Section)
-    come = (given_in detection_behaviour now input (found detection_behaviour now host).host).host
+    come = (given_in detection_behaviour now input (beginning detection_behaviour now host)).host
 
     abbrev paid_host : HostState (List Section)
     paid_host = (paying detection_behaviour now most_owed come).host
 
     step_owes : owed_many come.object ≤ most_owed → OwesByWindow (host_step detection_behaviour now input host).host
-    unfolding host_step going_on
+    unfolding host_step
     step_owes few opened completed = ended (beating_host now input paid_host).host
         (λ open_then completed_then. beaten input paid_host (record { done = (pays_off most_owed come (ap is_completed (sym ((told now input host).stage_is opened)) ∙ completed) few).done }) open_then) opened completed
 
@@ -296,12 +271,9 @@ Stands = (site : Site) (table : Table) (outset : Outset) (events : List Event) �
 
 -- ---- a station
 
-kept_of : (site : Site) (entry : DetectorEntry) (host : HostState (List Section)) → StrictDetector site entry host → KeptDetector site entry host
-kept_of site entry host strict = from_so detection_behaviour (HasNames (section_names site entry)) (spoken site) entry.name site.station.name (detectors_keep site (section_names site entry)) site.station.trains host strict
-
 module _ (site : Site) (station : IsStation site) (told : IsToldAlways) where
   pub record KeepsReports (entry : DetectorEntry) (host : HostState (List Section)) : Type 0 where
-    pub kept_so : StrictDetector site entry host
+    pub kept_so : KeptDetector site entry host
     pub owes_so : OwesByWindow host
     pub idle_so : IsIdle host
 
@@ -309,15 +281,15 @@ module _ (site : Site) (station : IsStation site) (told : IsToldAlways) where
   OfDetector place host = (entry : DetectorEntry) → slice_get site.detectors place ≡ Some entry → KeepsReports entry host
 
   pub few_come : (now : ℕ) (input : Input) (place : ℕ) (entry : DetectorEntry) → slice_get site.detectors place ≡ Some entry → (host : HostState (List Section)) → KeptDetector site entry host
-      → owed_many (given_in detection_behaviour now input (found detection_behaviour now host).host).host.object ≤ most_owed
+      → owed_many (given_in detection_behaviour now input (beginning detection_behaviour now host)).host.object ≤ most_owed
   few_come now input place entry there host kept_so =
       let at_most = (all_at (IsDetectorOf site) site.detectors station.detectors place entry there).few
       in let sections = map_length (λ (s : SectionId). slice_index_or site.sections s.0 []) entry.sections
       in let come = heard detection_behaviour (HasNames (section_names site entry)) (spoken site) entry.name site.station.name (detectors_keep site (section_names site entry)) now input _
-      (finds detection_behaviour (HasNames (section_names site entry)) (spoken site) entry.name site.station.name (detectors_keep site (section_names site entry)) now host kept_so)
-      in let names = map_length name_of (given_in detection_behaviour now input (found detection_behaviour now host).host).host.object
+      (begins detection_behaviour (HasNames (section_names site entry)) (spoken site) entry.name site.station.name (detectors_keep site (section_names site entry)) now host kept_so)
+      in let names = map_length name_of (given_in detection_behaviour now input (beginning detection_behaviour now host)).host.object
       in let same = ap length come.object
-      in let few = many_few (given_in detection_behaviour now input (found detection_behaviour now host).host).host.object
+      in let few = many_few (given_in detection_behaviour now input (beginning detection_behaviour now host)).host.object
       in omega (arith, at_most, sections, names, same, few)
 
   window_keeps : StationKeeps site (SpeaksAt site) (λ now. SpeaksAt site) (OfSignal site) (OfPoint site) OfDetector
@@ -332,13 +304,13 @@ module _ (site : Site) (station : IsStation site) (told : IsToldAlways) where
         new_point_is = old.new_point_is;
         detector_steps = λ now input place host is entry e. record {
           kept_so = old.detector_steps now input place host (λ x f. (is x f).kept_so) entry e;
-          owes_so = step_owes now told input host (few_come now input place entry e host (kept_of site entry host (is entry e).kept_so));
-          idle_so = idle_step now input host (few_come now input place entry e host (kept_of site entry host (is entry e).kept_so));
+          owes_so = step_owes now told input host (few_come now input place entry e host (is entry e).kept_so);
+          idle_so = idle_step now input host (few_come now input place entry e host (is entry e).kept_so);
         };
         new_detector_is = λ begins occupied entry place e other f. record {
           kept_so = old.new_detector_is begins occupied entry place e other f;
-          owes_so = λ opened. absurd (false≢true (sym (new_closed detection_behaviour _ _ _ _ _ _ _ _) ∙ opened));
-          idle_so = λ early. new_idle _ _ _ _ _ _ _ _;
+          owes_so = λ opened. absurd (false≢true (sym (new_closed detection_behaviour _ _ _ _ _ _ _) ∙ opened));
+          idle_so = λ early. new_idle _ _ _ _ _ _ _;
         };
       }
 

@@ -1,12 +1,10 @@
 -- What the server of one link hears in the events of a world's links.
-use Rattle.simulator_recovery.proofs.Words.Basics.{◌≡◌, ℕ, ◌+◌, ◌*◌, ◌≤◌, true, false, List, [], ◌∷◌, ◌++◌, ap, arith, Bool, length, map, refl, sym, subst, if◌then◌else◌, ◌==◌, eqb-true, inl, inr}
-use Rattle.simulator_recovery.proofs.Words.Links.{closing_by, created, receiving, sending_item, ticking, Call, Closes, Opens, Receives, Sends, Sent, Ticks, end_after, end_later, end_restarted, is_taken, outcome, reading_of, Calls, Elsewhere, Event, IsDelivered, Loses, May, MayRun, Passes, Restarts, happened, run, Timely, AreNames, Names, Ends, called, later, lost, restarted, receipt_at, LinkState, is_client, is_open, Identity, Role, CallsOn, Links, LinksEvent, LosesAny, PassesFor, RestartsOn, events_on, happened_to, is_oldest_on, run_on, seen, sent_by, NodeCall, calls_of, restarts_of, IsAmong, Reason}
+use Rattle.simulator_recovery.proofs.Words.Basics.{◌≡◌, ℕ, ◌+◌, ◌*◌, ◌≤◌, true, false, List, [], ◌∷◌, ◌++◌, ap, arith, Bool, length, map, refl, sym, subst, if◌then◌else◌, ◌==◌, eqb-true}
+use Rattle.simulator_recovery.proofs.Words.Links.{closing_by, created, receiving, sending_item, ticking, Call, Closes, Opens, Receives, Sends, Sent, Ticks, end_after, end_later, end_restarted, is_taken, outcome, reading_of, Calls, Elsewhere, Event, IsDelivered, Loses, May, MayRun, Passes, Restarts, happened, run, Timely, AreNames, Names, Ends, called, later, lost, restarted, receipt_at, LinkState, is_client, is_open, Identity, Role, CallsOn, Links, LinksEvent, LosesAny, PassesFor, RestartsOn, events_on, happened_to, is_oldest_on, run_on, seen, sent_by, NodeCall, calls_of, restarts_of}
 use Rattle.simulator_recovery.proofs.Words.Controllers.{LinkCall, AreCallsFor, AreOwn, Input, as_call}
 use Rattle.simulator_spec.specs.object_host.Host as host
 use Rattle.simulator_recovery.proofs.Lemmas.Silence.Fresh.{OwnConnection, taken_stamp}
 use Rattle.simulator_recovery.proofs.Lemmas.Silence.Stamps.{Leaves, Received, began, closing_by_leaves, left, received, sending_item_leaves, settled_leaves, ticking_leaves, took}
-use Rattle.simulator_recovery.proofs.Lemmas.Ground.ShutLinks.{closing_takes}
-use Rattle.simulator_recovery.proofs.Lemmas.Ground.DueTests.{same_true}
 
 -- ---- what is kept of a server's own stamp, over everything that happens to two ends
 
@@ -126,18 +124,6 @@ abbrev pub AreSilent : List LinksEvent → Type 0
 AreSilent [] = Unit {0}
 AreSilent (first ∷ others) = IsSilent first × AreSilent others
 
-among_front : (datagram : Sent) (list more : List Sent) → IsAmong datagram list → IsAmong datagram (list ++ more)
-among_front datagram (first ∷ later) more (inl is) = inl is
-among_front datagram (first ∷ later) more (inr behind) = inr (among_front datagram later more behind)
-
--- behind a close nothing else is taken
-close_hears : (made : ℕ) (why : Reason) (bytes : List ℕ) (connection : ℕ) (ends : Ends) → HearsBy made (Calls Role.Server (Receives bytes connection)) ends
-    → HearsBy made (Calls Role.Server (Receives bytes connection)) (called Role.Server (Closes why) ends)
-unfolding called outcome end_after
-close_hears made why bytes connection ends hears = λ taken.
-    let one = hears (closing_takes (reading_of ends.server.clock) why bytes ends.server.link taken)
-    in (one.0, record { was_sent = among_front one.0 ends.sent _ one.1.was_sent; bytes_same = one.1.bytes_same; connection_same = one.1.connection_same; in_time = one.1.in_time }, one.2)
-
 -- the calls of a host as events of its link
 abbrev pub as_events : (connection at : ℕ) → List LinkCall → List LinksEvent
 as_events connection at calls = map (λ call. CallsOn at Role.Server call) (map (as_call connection) calls)
@@ -196,34 +182,14 @@ module _ (sees : SeesEvents) (made link : ℕ) where
   ComesBy (Input.Datagram bytes) connection at links = at ≡ link → HearsBy made (Calls Role.Server (Receives bytes.now connection)) (seen link links)
   ComesBy _ connection at links = Unit {0}
 
-  pub host_hears : (now : ℕ) (of_link : LinkState) (input : Input) (connection at : ℕ) (calls : List LinkCall) (links : Links) → AreCallsFor now of_link input calls → ComesBy input connection at links
+  pub host_hears : (input : Input) (connection at : ℕ) (calls : List LinkCall) (links : Links) → AreCallsFor input calls → ComesBy input connection at links
       → LinkHearsBy (as_events connection at calls) links
-  host_hears now of_link Input.Tick connection at calls links fits comes = all_silent (as_events connection at calls) links (own_silent connection at calls fits)
-  host_hears now of_link (Input.Sense sense) connection at calls links fits comes = all_silent (as_events connection at calls) links (own_silent connection at calls fits)
-  host_hears now of_link (Input.Datagram bytes) connection at calls links (others, inl are, own) comes =
-      subst (λ (made_of : List LinkCall). LinkHearsBy (as_events connection at made_of) links) (sym are)
-      (hears_then (CallsOn at Role.Server (Receives bytes.now connection)) (as_events connection at others) links (receives at bytes.now connection links comes)
-      (all_silent (as_events connection at others) _ (own_silent connection at others own)))
-  host_hears now of_link (Input.Datagram bytes) connection at calls links (others, inr closes, own) comes =
-      subst (λ (made_of : List LinkCall). LinkHearsBy (as_events connection at made_of) links) (sym closes.0)
-      (hears_then close (as_events connection at (host.Receives bytes.now ∷ others)) links (silent_hears close links tt)
-      (hears_then (CallsOn at Role.Server (Receives bytes.now connection)) (as_events connection at others) behind (receives at bytes.now connection behind comes_behind)
-      (all_silent (as_events connection at others) _ (own_silent connection at others own))))
-    where
-      close : LinksEvent
-      close = CallsOn at Role.Server (Closes Reason.User)
-
-      behind : Links
-      behind = happened_to close links
-
-      comes_behind : at ≡ link → HearsBy made (Calls Role.Server (Receives bytes.now connection)) (seen link behind)
-      comes_behind here = subst (HearsBy made (Calls Role.Server (Receives bytes.now connection))) (sym (sees link close links))
-          (subst (λ (b : Bool). HearsBy made (Calls Role.Server (Receives bytes.now connection))
-          (run (if b then Calls Role.Server (Closes Reason.User) ∷ [] else Elsewhere (length (sent_by Role.Server (Closes Reason.User) (seen at links))) ∷ []) (seen link links))) (sym (same_link (sym here)))
-          (close_hears made Reason.User bytes.now connection (seen link links) (comes here)))
-
-      same_link : link ≡ at → (link == at) ≡ true
-      same_link e = subst (λ (n : ℕ). (link == n) ≡ true) e (same_true link)
+  host_hears Input.Tick connection at calls links fits comes = all_silent (as_events connection at calls) links (own_silent connection at calls fits)
+  host_hears (Input.Sense sense) connection at calls links fits comes = all_silent (as_events connection at calls) links (own_silent connection at calls fits)
+  host_hears (Input.Datagram bytes) connection at calls links fits comes =
+      subst (λ (made_of : List LinkCall). LinkHearsBy (as_events connection at made_of) links) (sym fits.1)
+      (hears_then (CallsOn at Role.Server (Receives bytes.now connection)) (as_events connection at fits.0) links (receives at bytes.now connection links comes)
+      (all_silent (as_events connection at fits.0) _ (own_silent connection at fits.0 fits.2)))
 
 -- ---- the calls of the interlocking, and restarts
 

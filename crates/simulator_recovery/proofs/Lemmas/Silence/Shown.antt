@@ -1,7 +1,7 @@
 -- A lamp is at stop and a point undriven in a connection in which no item was taken, and in none.
 use Rattle.simulator_recovery.proofs.Words.Basics.{◌≡◌, ℕ, Bool, true, false, List, [], length, Option, Some, None, refl, sym, ap, ◌∙◌, arith, if◌then◌else◌, is_some}
-use Rattle.simulator_recovery.proofs.Words.Links.{EndState, reading_of, Timely, Names, Ordered, Ends, IsCounted, counts, made_anew, LinkState, is_open, Role}
-use Rattle.simulator_recovery.proofs.Words.Controllers.{Aspect, Stop, Side, Telegram, commands_of, aspect_shown, standing, SignalState, PointState, drives, move_in, unanswered, Progress, Answered, Driving, Arrived, TimedOut, IsReported, is_moving, IsTold, aspect_due, aspect_taken, last_indicated, World, restrictive_from, host_of}
+use Rattle.simulator_recovery.proofs.Words.Links.{alive_until, EndState, reading_of, Timely, Names, Ordered, Ends, IsCounted, counts, made_anew, LinkState, is_open, Role}
+use Rattle.simulator_recovery.proofs.Words.Controllers.{Aspect, Stop, Side, Telegram, commands_of, aspect_shown, standing, SignalState, PointState, drives, move_in, unanswered, Progress, Answered, Driving, Arrived, TimedOut, IsReported, is_moving, IsTold, aspect_due, aspect_taken, last_indicated, World}
 use Rattle.simulator_recovery.proofs.Words.Stations.{ClockedControllerState, IsEndOfServer}
 use Rattle.simulator_recovery.proofs.Words.Recovery.{IsSpent, LawsBelow}
 use Rattle.simulator_recovery.proofs.Lemmas.Ground.EndCalls.{none_long}
@@ -28,7 +28,7 @@ pub shows_stop : ((world : World SignalState) → IsTold world → aspect_shown 
     → aspect_shown world.object.lamp (reading_of world.ends.server.clock) ≡ Stop
 unfolding last_indicated commands_of
 shows_stop shown world told told_is none =
-    shown world told ∙ ap (λ (a : Aspect). standing a (restrictive_from (host_of world)) (reading_of world.ends.server.clock)) (taken_is (is_open world.ends.server.link.phase) refl)
+    shown world told ∙ ap (λ (a : Aspect). standing a (alive_until world.ends.server.link) (reading_of world.ends.server.clock)) (taken_is (is_open world.ends.server.link.phase) refl)
   where
     taken_is : (o : Bool) → is_open world.ends.server.link.phase ≡ o → aspect_taken world ≡ Stop
     taken_is false e = ap (λ (b : Bool). if b then last_indicated world.told Stop else Stop) e

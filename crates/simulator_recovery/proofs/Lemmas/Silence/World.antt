@@ -10,7 +10,7 @@ use Rattle.simulator_recovery.proofs.Lemmas.Silence.Network.{HearsBy, AreSilent,
 
 -- what a host is called for in a step
 abbrev pub CallsFor : {Object : Type 0} → Behaviour Object → Type 0
-CallsFor {Object} does = (now : ℕ) (input : Input) (host : HostState Object) → AreCallsFor now host.link input (host_step does now input host).calls
+CallsFor {Object} does = (now : ℕ) (input : Input) (host : HostState Object) → AreCallsFor input (host_step does now input host).calls
 
 -- the laws of deliveries that this stands on
 -- ---- the copy that is delivered
@@ -105,7 +105,7 @@ module _ (sees : SeesEvents) (laws : LawsBelow) (site : Site) (table : Table) (l
       → ((controller : ClockedControllerState Object) → found ≡ Some controller → ComesBy sees made link input connection at network) → Hears (host_events does input connection at found)
   hosts does fits input connection at None comes = tt
   hosts does fits input connection at (Some controller) comes =
-      host_hears sees made link (reading_of controller.clock) controller.host.link input connection at (step_of does input controller).calls network (fits (reading_of controller.clock) input controller.host) (comes controller refl)
+      host_hears sees made link input connection at (step_of does input controller).calls network (fits (reading_of controller.clock) input controller.host) (comes controller refl)
 
   -- one event
   one_silent : (one : LinksEvent) → IsSilent one → Hears (one ∷ [])

@@ -1,5 +1,5 @@
 -- What the controllers of a station have given by their stages, after every list of events.
-use Rattle.simulator_recovery.proofs.Words.Basics.{◌≡◌, ℕ, ◌∙◌, true, false, arith, length, List, refl, sym, false≢true, slice_get_within, ap, zip, Bool}
+use Rattle.simulator_recovery.proofs.Words.Basics.{◌≡◌, ℕ, ◌∙◌, true, false, arith, length, List, refl, sym, false≢true, slice_get_within, ap, zip}
 use Rattle.simulator_recovery.proofs.Words.Links.{created, Identity, reading_of, Links, run_links, is_open, begun}
 use Rattle.simulator_recovery.proofs.Words.Controllers.{Behaviour, HostState, keeping, new_host, item_of, SignalState, signal_behaviour, point_behaviour, PointState, detection_behaviour, Section}
 use Rattle.simulator_recovery.proofs.Words.Interlockings.{Table}
@@ -15,9 +15,9 @@ use Rattle.simulator_recovery.proofs.Lemmas.Ground.IxlClients.{mapped_at}
 
 -- ---- what the controllers of a station have given by their stages, event by event
 
-pub new_closed : {Object : Type 0} (does : Behaviour Object) (identity : Identity) (own_name peer_name : List ℕ) (first now : ℕ) (object : Object) (version : ℕ) (is_strict : Bool) → is_open (new_host does identity own_name peer_name first now object version is_strict).link.phase ≡ false
+pub new_closed : {Object : Type 0} (does : Behaviour Object) (identity : Identity) (own_name peer_name : List ℕ) (first now : ℕ) (object : Object) (version : ℕ) → is_open (new_host does identity own_name peer_name first now object version).link.phase ≡ false
 unfolding new_host keeping created
-new_closed does identity own_name peer_name first now object version is_strict = refl
+new_closed does identity own_name peer_name first now object version = refl
 
 -- a controller counts by its stage, and has given what this tells
 record Says {Object : Type 0} (does : Behaviour Object) (host : HostState Object) (items : Lists) : Type 0 where
@@ -33,11 +33,11 @@ steps_say does many kind input connection place c ends link_is clock_is s = reco
   said = controller_said does many s.objects kind input connection 0 c ends link_is clock_is s.counts s.said;
 }
 
-new_says : {Object : Type 0} (does : Behaviour Object) → TellsAsMany does → (identity : Identity) (own_name peer_name : List ℕ) (first now : ℕ) (object : Object) (version : ℕ) (is_strict : Bool) (items : Lists) → Says does (new_host does identity own_name peer_name first now object version is_strict) items
-new_says does many identity own_name peer_name first now object version is_strict items = record {
+new_says : {Object : Type 0} (does : Behaviour Object) → TellsAsMany does → (identity : Identity) (own_name peer_name : List ℕ) (first now : ℕ) (object : Object) (version : ℕ) (items : Lists) → Says does (new_host does identity own_name peer_name first now object version) items
+new_says does many identity own_name peer_name first now object version items = record {
   objects = objects_told does object;
-  counts = new_stands does many (objects_told does object) identity own_name peer_name first now object version is_strict refl;
-  said = λ e. absurd (false≢true (sym (new_closed does identity own_name peer_name first now object version is_strict) ∙ e));
+  counts = new_stands does many (objects_told does object) identity own_name peer_name first now object version refl;
+  said = λ e. absurd (false≢true (sym (new_closed does identity own_name peer_name first now object version) ∙ e));
 }
 
 module _ (laws : LawsBelow) (site : Site) (table : Table) where
@@ -55,9 +55,9 @@ module _ (laws : LawsBelow) (site : Site) (table : Table) where
     signals = steps_say signal_behaviour signals_tell laws.signals;
     points = steps_say point_behaviour points_tell laws.points;
     detectors = steps_say detection_behaviour detectors_tell laws.detectors;
-    new_signals = λ begins place entry old items e s. new_says signal_behaviour signals_tell _ _ _ _ _ _ _ _ items;
-    new_points = λ begins position place entry old items e s. new_says point_behaviour points_tell _ _ _ _ _ _ _ _ items;
-    new_detectors = λ begins occupied place entry old items e s. new_says detection_behaviour detectors_tell _ _ _ _ _ _ _ _ items;
+    new_signals = λ begins place entry old items e s. new_says signal_behaviour signals_tell _ _ _ _ _ _ _ items;
+    new_points = λ begins position place entry old items e s. new_says point_behaviour points_tell _ _ _ _ _ _ _ items;
+    new_detectors = λ begins occupied place entry old items e s. new_says detection_behaviour detectors_tell _ _ _ _ _ _ _ items;
   }
 
   pub said_after : (happening : Event) (world : WorldState) (network : Links) → IsWhole site world → AreLinksOf site world network → AllStandByCounts site world → AllHaveSaid site world network
@@ -82,9 +82,9 @@ module _ (site : Site) (table : Table) where
   pub first_said : (outset : Outset) (network : Links) → AllHaveSaid site (world_at site table outset) network
   unfolding world_at
   first_said outset network = record {
-    signals = λ place c e opened. let found = mapped_at _ site.signals place c e in absurd (false≢true (sym (new_closed signal_behaviour _ _ _ _ _ _ _ _) ∙ ap (λ (x : ClockedControllerState SignalState). is_open x.host.link.phase) (sym found.2) ∙ opened));
-    points = λ place c e opened. let found = mapped_at (point_standing site) (zip site.points outset.positions) place c e in absurd (false≢true (sym (new_closed point_behaviour _ _ _ _ _ _ _ _) ∙ ap (λ (x : ClockedControllerState PointState). is_open x.host.link.phase) (sym found.2) ∙ opened));
-    detectors = λ place c e opened. let found = mapped_at _ site.detectors place c e in absurd (false≢true (sym (new_closed detection_behaviour _ _ _ _ _ _ _ _) ∙ ap (λ (x : ClockedControllerState (List Section)). is_open x.host.link.phase) (sym found.2) ∙ opened));
+    signals = λ place c e opened. let found = mapped_at _ site.signals place c e in absurd (false≢true (sym (new_closed signal_behaviour _ _ _ _ _ _ _) ∙ ap (λ (x : ClockedControllerState SignalState). is_open x.host.link.phase) (sym found.2) ∙ opened));
+    points = λ place c e opened. let found = mapped_at (point_standing site) (zip site.points outset.positions) place c e in absurd (false≢true (sym (new_closed point_behaviour _ _ _ _ _ _ _) ∙ ap (λ (x : ClockedControllerState PointState). is_open x.host.link.phase) (sym found.2) ∙ opened));
+    detectors = λ place c e opened. let found = mapped_at _ site.detectors place c e in absurd (false≢true (sym (new_closed detection_behaviour _ _ _ _ _ _ _) ∙ ap (λ (x : ClockedControllerState (List Section)). is_open x.host.link.phase) (sym found.2) ∙ opened));
   }
 
 module _ (laws : LawsBelow) (site : Site) (table : Table) (station : IsStation site) (once : Once site) where

@@ -50,9 +50,9 @@ module _ (site : Site) where
       → TellsSignal entry (new_signal site begins entry) items
   signal_made begins entry items kept_so ever = record {
     objects = objects_told signal_behaviour _;
-    counts = new_stands signal_behaviour signals_tell _ _ _ _ _ _ _ _ _ refl;
+    counts = new_stands signal_behaviour signals_tell _ _ _ _ _ _ _ _ refl;
     kept_so = kept_so;
-    said = λ e. absurd (false≢true (sym (new_closed signal_behaviour _ _ _ _ _ _ _ _) ∙ e));
+    said = λ e. absurd (false≢true (sym (new_closed signal_behaviour _ _ _ _ _ _ _) ∙ e));
     ever = ever;
   }
 
@@ -60,9 +60,9 @@ module _ (site : Site) where
       → TellsPoint entry (new_point site begins position entry) items
   point_made begins position entry items kept_so ever = record {
     objects = objects_told point_behaviour _;
-    counts = new_stands point_behaviour points_tell _ _ _ _ _ _ _ _ _ refl;
+    counts = new_stands point_behaviour points_tell _ _ _ _ _ _ _ _ refl;
     kept_so = kept_so;
-    said = λ e. absurd (false≢true (sym (new_closed point_behaviour _ _ _ _ _ _ _ _) ∙ e));
+    said = λ e. absurd (false≢true (sym (new_closed point_behaviour _ _ _ _ _ _ _) ∙ e));
     ever = ever;
   }
 
@@ -70,9 +70,9 @@ module _ (site : Site) where
       → SaidSome detection_behaviour (HasNames (section_names site entry)) (SomeAsks (spoken site) items.taken) (item_for entry.name site.station.name) (spoken site) items.given → TellsDetector entry (new_detector site begins occupied entry) items
   detector_made begins occupied entry items kept_so ever = record {
     objects = objects_told detection_behaviour _;
-    counts = new_stands detection_behaviour detectors_tell _ _ _ _ _ _ _ _ _ refl;
+    counts = new_stands detection_behaviour detectors_tell _ _ _ _ _ _ _ _ refl;
     kept_so = kept_so;
-    said = λ e. absurd (false≢true (sym (new_closed detection_behaviour _ _ _ _ _ _ _ _) ∙ e));
+    said = λ e. absurd (false≢true (sym (new_closed detection_behaviour _ _ _ _ _ _ _) ∙ e));
     ever = ever;
   }
 

@@ -2,7 +2,7 @@
 use Rattle.simulator_recovery.proofs.Words.Basics.{◌≡◌, ℕ, ◌+◌, ◌-◌, Bool, true, false, List, [], ◌∷◌, length, refl, sym, ap, subst, ◌∙◌, if◌then◌else◌, arith, ◌&&◌, false≢true}
 use Rattle.simulator_recovery.proofs.Words.Links.{answer_to_send, receiving, is_open, is_up, Reason}
 use Rattle.simulator_recovery.proofs.Words.Controllers.{writing, VersionCheck, Message}
-use Rattle.simulator_recovery.proofs.Words.Interlockings.{PeerState, is_outside, ClientSoFar, Closes, Opens, Receives, Sends, Ticks, calling, acted_on, acting, acting_all, at_stage, commanding, ending, fallen, hearing, is_refused_by_window, message_of, posting, rising, saying, stage_after_command, telegram_to, ticking, Stage, watched}
+use Rattle.simulator_recovery.proofs.Words.Interlockings.{PeerState, is_outside, ClientSoFar, Closes, Opens, Receives, Sends, Ticks, calling, acted_on, acting, acting_all, at_stage, commanding, ending, fallen, hearing, is_refused_by_window, message_of, posting, rising, saying, stage_after_command, telegram_to, ticking, Stage}
 use Rattle.simulator_recovery.proofs.Words.Recovery.{ClientHasActedOn, KeepsCount}
 use Rattle.simulator_spec.specs.ixl_client.declared.command.Command.{Command}
 use Rattle.simulator_recovery.proofs.Lemmas.Ground.ClientItem.{answers, changes, completes, Goes, one_item, starts, tells}
@@ -138,25 +138,25 @@ record Inside (before after : ClientSoFar) : Type 0 where
   acted : after.acted ≡ before.acted
   stage_is : is_outside after.client.stage ≡ false → after.client.stage ≡ before.client.stage
 
-ends : (now : ℕ) (part : ClientSoFar) → Inside part (ending now part)
+ends : (part : ClientSoFar) → Inside part (ending part)
 unfolding fallen
-ends now part = choose (is_up part.client.link.phase)
+ends part = choose (is_up part.client.link.phase)
   where
-    choose : (b : Bool) → Inside part (record part { client = watched now (if b then part.client else record part.client { stage = Stage.Outside }) })
+    choose : (b : Bool) → Inside part (record part { client = if b then part.client else record part.client { stage = Stage.Outside } })
     choose true = record { acted = refl; stage_is = λ f. refl }
     choose false = record { acted = refl; stage_is = λ f. absurd (false≢true (sym f)) }
 
-ended : (now : ℕ) (before part : ClientSoFar) → Counts before part → KeepsCount before (ending now part)
-ended now before part counts count has inside =
-    let behind = ends now part
+ended : (before part : ClientSoFar) → Counts before part → KeepsCount before (ending part)
+ended before part counts count has inside =
+    let behind = ends part
     in let sum : (count + length before.acted) + counts.more ≡ count + length part.acted = let a = counts.acted in omega (arith, a)
-    in subst (λ (l : List (List ℕ)). ClientHasActedOn before.client.peer (ending now part).client.stage (count + length l)) (sym behind.acted)
+    in subst (λ (l : List (List ℕ)). ClientHasActedOn before.client.peer (ending part).client.stage (count + length l)) (sym behind.acted)
     (subst (λ (s : Stage). ClientHasActedOn before.client.peer s (count + length part.acted)) (sym (behind.stage_is inside))
     (subst (ClientHasActedOn before.client.peer part.client.stage) sum (counts.on (count + length before.acted) has)))
 
 pub hearing_counts : (now : ℕ) (bytes : List ℕ) (part : ClientSoFar) → KeepsCount part (hearing now bytes part)
 unfolding hearing calling
-hearing_counts now bytes part = ended now part (acting_all now items (rising now received))
+hearing_counts now bytes part = ended part (acting_all now items (rising now received))
     (counts_then part received (acting_all now items (rising now received)) (came now bytes part)
     (counts_then received (rising now received) (acting_all now items (rising now received)) (rises now received) (all_act now items (rising now received))))
   where
@@ -171,7 +171,7 @@ hearing_counts now bytes part = ended now part (acting_all now items (rising now
 
 pub commanding_counts : (now : ℕ) (command : Command) (part : ClientSoFar) → KeepsCount part (commanding now command part)
 unfolding commanding
-commanding_counts now command part = ended now part (at_stage (stage_after_command command part.client.stage) (posting now (message_of command) part)) (record {
+commanding_counts now command part = ended part (at_stage (stage_after_command command part.client.stage) (posting now (message_of command) part)) (record {
   peer = posted_at now (message_of command) (stage_after_command command part.client.stage) part;
   more = 0;
   acted = ap length (posted_acted now (message_of command) part) ∙ sym (none_more (length part.acted));
@@ -189,4 +189,4 @@ commanding_counts now command part = ended now part (at_stage (stage_after_comma
 
 pub ticking_counts : (now : ℕ) (part : ClientSoFar) → KeepsCount part (ticking now part)
 unfolding ticking calling
-ticking_counts now part = ended now part (calling now Opens (calling now Ticks part)) (counts_none part (calling now Opens (calling now Ticks part)) refl refl refl)
+ticking_counts now part = ended part (calling now Opens (calling now Ticks part)) (counts_none part (calling now Opens (calling now Ticks part)) refl refl refl)

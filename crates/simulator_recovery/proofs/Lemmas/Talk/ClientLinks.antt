@@ -2,17 +2,14 @@
 use Rattle.simulator_recovery.proofs.Words.Basics.{◌≡◌, ℕ, suc, ◌∙◌, ◌+◌, ◌⊎◌, inl, inr, Bool, true, false, not, ◌&&◌, nat_lt, List, [], ◌∷◌, length, Result, Ok, Err, if◌then◌else◌, refl, sym, ap, subst, arith, is_ok, false≢true}
 use Rattle.simulator_recovery.proofs.Words.Links.{acceptance, answer_to_send, created, opening, receiving, sending_item, ticking as link_ticking, settled, window_size, Step, SendFault, WindowFull, LinkState, is_open, is_up, Identity, Phase, Reason}
 use Rattle.simulator_recovery.proofs.Words.Controllers.{writing, InitialisationRequest, VersionCheck, Message}
-use Rattle.simulator_recovery.proofs.Words.Interlockings.{ClientState, PeerState, is_outside, new_client, ClientSoFar, Closes, Opens, Receives, Sends, Ticks, calling, acted_on, acting, acting_all, at_stage, clocked, commanding, fallen, hearing, is_refused_by_window, message_of, posting, rising, saying, stage_after_command, telegram_to, ticking, Stage, closing_behind, watched, is_behind}
+use Rattle.simulator_recovery.proofs.Words.Interlockings.{ClientState, PeerState, is_outside, new_client, ClientSoFar, Closes, Opens, Receives, Sends, Ticks, calling, acted_on, acting, acting_all, at_stage, clocked, commanding, fallen, hearing, is_refused_by_window, message_of, posting, rising, saying, stage_after_command, telegram_to, ticking, Stage}
 use Rattle.simulator_recovery.proofs.Words.Recovery.{ClientHasActedOn, ClientHasGiven, ClientStandsByCounts, HasCounted}
 use Rattle.simulator_spec.specs.ixl_client.declared.command.Command.{Command}
 use Rattle.simulator_recovery.proofs.Lemmas.Talk.ClientCounts.{Counts, acts, all_act, posted_acted, posted_at, rises}
 use Rattle.simulator_recovery.proofs.Lemmas.Ground.ClientItem.{answers, changes, completes, Goes, not_outside, one_item, starts, tells}
-use Rattle.simulator_recovery.proofs.Lemmas.Ground.LinkCounts.{AfterReceipt, close_closes, comes_in, open_counts, receipt_counts, send_counts, send_phase, send_was_open, settled_again, settled_open, stays_in, tick_counts, tick_was_open, settled_twice}
+use Rattle.simulator_recovery.proofs.Lemmas.Ground.LinkCounts.{AfterReceipt, close_closes, comes_in, open_counts, receipt_counts, send_counts, send_phase, send_was_open, settled_again, settled_open, stays_in, tick_counts, tick_was_open}
 use Rattle.simulator_recovery.proofs.Lemmas.Ground.EndCalls.{count_push}
 use Rattle.simulator_recovery.proofs.Lemmas.Ground.DueTests.{none_more, one_fewer}
-use Rattle.simulator_recovery.proofs.Lemmas.Ground.FoundClients.{by_part, shut, shut_link, shut_so, behind_up}
-use Rattle.simulator_recovery.proofs.Lemmas.Ground.ShutLinks.{closing_settled, not_up, just_shut, settled_clock}
-use Rattle.simulator_recovery.proofs.Lemmas.Ground.ShutLinks as shut_links
 
 pub up_open : (phase : Phase) → is_up phase ≡ true → is_open phase ≡ true
 up_open Phase.Closed up = absurd (false≢true up)
@@ -69,11 +66,11 @@ mid_of client stands = record {
 
 -- ---- the end of a part
 
-fallen_stands : (now : ℕ) (client : ClientState) → Risen 0 client → ClientStandsByCounts (watched now (fallen client))
+fallen_stands : (client : ClientState) → Risen 0 client → ClientStandsByCounts (fallen client)
 unfolding fallen
-fallen_stands now client r = choose (is_up client.link.phase) refl
+fallen_stands client r = choose (is_up client.link.phase) refl
   where
-    choose : (b : Bool) → is_up client.link.phase ≡ b → ClientStandsByCounts (watched now (if b then client else record client { stage = Stage.Outside }))
+    choose : (b : Bool) → is_up client.link.phase ≡ b → ClientStandsByCounts (if b then client else record client { stage = Stage.Outside })
     choose true e = record {
       outside = r.risen e ∙ sym (ap not e);
       stands = λ opened. let m = r.mid.inside e in record { taken = m.taken; given = m.given; counts = subst (λ (n : ℕ). HasCounted n m.given client.link) (none_more m.taken) m.counts; acted = m.acted; gave = m.gave };
@@ -91,7 +88,7 @@ pub record ClockedStands (now : ℕ) (client : ClientState) : Type 0 where
 pub clocked_stands : (now : ℕ) (client : ClientState) → ClientStandsByCounts client → ClockedStands now (clocked now client)
 unfolding clocked fallen
 clocked_stands now client stands = record {
-  stands = fallen_stands now at (record {
+  stands = fallen_stands at (record {
     mid = record {
       inside = λ up. let so = settled_open now client.link (up_open at.link.phase up) in let m = r.mid.inside (ap (λ (l : LinkState). is_up l.phase) (sym so.0) ∙ up) in
           record { taken = m.taken; given = m.given; counts = subst (HasCounted (m.taken + 0) m.given) (sym so.0) (record { taken_is = m.counts.taken_is; given_is = m.counts.given_is; waiting = m.counts.waiting }); acted = m.acted; gave = m.gave };
@@ -116,22 +113,6 @@ clocked_stands now client stands = record {
         choose : (b : Bool) → (if b then c else record c { stage = Stage.Outside }).link ≡ c.link
         choose true = refl
         choose false = refl
-
--- a link that isn't caught up any more is closed
-pub shut_stands : (now : ℕ) (client : ClientState) → ClockedStands now (shut now client)
-shut_stands now client = let after = shut_so now client in record {
-  stands = record { outside = after.outside ∙ sym (ap not (not_up _ after.closed)); stands = λ opened. absurd (false≢true (sym after.closed ∙ opened)) };
-  link = (shut now client).link;
-  link_is = shut_link now client ∙ sym (closing_settled now client.link) ∙ ap (settled now) (sym (shut_link now client));
-}
-
-pub closing_stands : (now : ℕ) (part : ClientSoFar) → ClockedStands now part.client → ClockedStands now (closing_behind now part).client
-closing_stands now part is = by_part (ClockedStands now) now part (λ behind. shut_stands now part.client) (λ calm. is)
-
--- and then it is closed since this reading
-pub clocked_shut : (now : ℕ) (client : ClientState) → ClockedStands now client → is_behind now client ≡ true → shut_links.IsShut now (shut now client).link
-clocked_shut now client is behind = subst (shut_links.IsShut now) (sym (shut_link now client))
-    (just_shut now client.link (ap (settled now) is.link_is ∙ settled_twice now is.link ∙ sym is.link_is) (ap (λ (l : LinkState). l.clock) is.link_is ∙ settled_clock now is.link) (up_open _ (behind_up now client behind)))
 
 -- ---- what a client says
 
@@ -369,6 +350,13 @@ before_of client stands = by_open (is_open client.link.phase) refl
     by_open true f = let c = stands.stands f in record { taken = c.taken; given = c.given; has = λ g. (c.counts, c.acted, c.gave) }
     by_open false f = record { taken = 0; given = 0; has = λ g. absurd (false≢true (sym f ∙ g)) }
 
+not_up : (phase : Phase) → is_open phase ≡ false → is_up phase ≡ false
+not_up Phase.Closed e = refl
+not_up Phase.Start e = absurd (false≢true (sym e))
+not_up Phase.Up e = absurd (false≢true (sym e))
+not_up Phase.RetransmissionRequested e = absurd (false≢true (sym e))
+not_up Phase.RetransmissionRunning e = absurd (false≢true (sym e))
+
 -- bytes that come
 came_mid : (now : ℕ) (bytes : List ℕ) (part : ClientSoFar) → ClockedStands now part.client → Mid (length (receiving now bytes part.client.link).items) (calling now (Receives bytes) part).client
 unfolding calling
@@ -429,7 +417,7 @@ came_mid now bytes part is = record { inside = λ up. of_inside (receipt (up_ope
 
 pub hearing_stands : (now : ℕ) (bytes : List ℕ) (part : ClientSoFar) → ClockedStands now part.client → ClientStandsByCounts (hearing now bytes part).client
 unfolding hearing
-hearing_stands now bytes part is = fallen_stands now (acting_all now items (rising now received)).client (all_risen now items (rising now received) (rising_risen now (length items) received (came_mid now bytes part is)))
+hearing_stands now bytes part is = fallen_stands (acting_all now items (rising now received)).client (all_risen now items (rising now received) (rising_risen now (length items) received (came_mid now bytes part is)))
   where
     received : ClientSoFar
     received = calling now (Receives bytes) part
@@ -440,7 +428,7 @@ hearing_stands now bytes part is = fallen_stands now (acting_all now items (risi
 -- a command
 pub commanding_stands : (now : ℕ) (command : Command) (part : ClientSoFar) → ClientStandsByCounts part.client → ClientStandsByCounts (commanding now command part).client
 unfolding commanding
-commanding_stands now command part stands = fallen_stands now (at_stage (stage_after_command command part.client.stage) (posting now (message_of command) part)).client (record {
+commanding_stands now command part stands = fallen_stands (at_stage (stage_after_command command part.client.stage) (posting now (message_of command) part)).client (record {
   mid = record {
     inside = λ up.
         let before = is_up_before now (message_of command) part up
@@ -499,7 +487,7 @@ commanding_stands now command part stands = fallen_stands now (at_stage (stage_a
 -- a tick
 pub ticking_stands : (now : ℕ) (part : ClientSoFar) → ClientStandsByCounts part.client → ClientStandsByCounts (ticking now part).client
 unfolding ticking calling
-ticking_stands now part stands = fallen_stands now (calling now Opens (calling now Ticks part)).client (record {
+ticking_stands now part stands = fallen_stands (calling now Opens (calling now Ticks part)).client (record {
   mid = record { inside = λ up. of_inside up (opened_by (up_open _ up)); starting = λ opened down. of_starting down (opened_by opened) };
   risen = λ up. risen_so up (opened_by (up_open _ up));
 })

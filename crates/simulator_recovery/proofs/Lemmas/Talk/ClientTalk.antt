@@ -1,8 +1,8 @@
 -- What a client gives in a step is what its stages tell.
 use Rattle.simulator_recovery.proofs.Words.Basics.{◌≡◌, ℕ, suc, ◌∙◌, ◌+◌, ◌-◌, ◌≤◌, ◌⊎◌, inl, inr, Bool, true, false, not, ◌&&◌, List, [], ◌∷◌, ◌++◌, length, map, Result, Ok, Err, if◌then◌else◌, refl, sym, ap, subst, arith, is_ok, nat_le, false≢true}
-use Rattle.simulator_recovery.proofs.Words.Links.{acceptance, answer_to_send, opening, opens, receiving, sending_item, ticking as link_ticking, Call, beginning, requesting, Step, beating, entered, sending, silent, LinkState, is_open, is_up, all_made, made_by, SendFault, Phase, Heartbeat, Reason, closing_by}
+use Rattle.simulator_recovery.proofs.Words.Links.{acceptance, answer_to_send, opening, opens, receiving, sending_item, ticking as link_ticking, Call, beginning, requesting, Step, beating, entered, sending, silent, LinkState, is_open, is_up, all_made, made_by, SendFault, Phase, Heartbeat, Reason}
 use Rattle.simulator_recovery.proofs.Words.Controllers.{writing, Initialisation, InitialisationRequest, VersionCheck, Message, Protocol}
-use Rattle.simulator_recovery.proofs.Words.Interlockings.{ClientState, PeerState, is_outside, is_ready, ClientSoFar, Closes, LinkCall, Opens, Receives, Sends, Ticks, as_call, call_made, calling, item_of, reports_changes, acted_on, acting, acting_all, at_stage, commanding, fallen, hearing, is_refused_by_window, message_of, posting, rising, saying, stage_after_command, telegram_to, ticking, Stage, Detector, Node, Point, Signal, closing_behind, is_behind, watched, ending}
+use Rattle.simulator_recovery.proofs.Words.Interlockings.{ClientState, PeerState, is_outside, is_ready, ClientSoFar, Closes, LinkCall, Opens, Receives, Sends, Ticks, as_call, call_made, calling, item_of, reports_changes, acted_on, acting, acting_all, at_stage, commanding, fallen, hearing, is_refused_by_window, message_of, posting, rising, saying, stage_after_command, telegram_to, ticking, Stage, Detector, Node, Point, Signal}
 use Rattle.simulator_recovery.proofs.Words.Stations.{Site}
 use Rattle.simulator_recovery.proofs.Words.Machine.{given_after, given_by, taken_after, taken_by}
 use Rattle.simulator_recovery.proofs.Words.Recovery.{AllAnswered, AtMostOneWaits, ClientHasSaid, ClientSaid, ClientTalks, HasCommanded, asked, checked, commanded, nothing, ClientHasActedOn}
@@ -448,26 +448,8 @@ module _ (site : Site) (node : Node) (peer : PeerState) (of : OfNode node peer) 
     pub peer_is : client.peer ≡ peer
     pub talks : ClientTalks site node client (given_after now (map (as_call connection) calls) link given) (taken_after now (map (as_call connection) calls) link taken)
 
-  -- a close
-  shut_risen : (part : ClientSoFar) (t : List (List ℕ)) → Risen 0 part t → Risen 0 (calling now (Closes Reason.User) part) t
-  unfolding calling
-  shut_risen part t r = record {
-    mid = record {
-      g = r.mid.g;
-      tracks = called (Closes Reason.User) part r.mid.g t r.mid.tracks;
-      peer_is = r.mid.peer_is;
-      ever = r.mid.ever;
-      inside = λ up. absurd (false≢true (sym closed ∙ up_open _ up));
-      starting = λ opened down. absurd (false≢true (sym closed ∙ opened));
-    };
-    risen = λ up. absurd (false≢true (sym closed ∙ up_open _ up));
-  }
-    where
-      closed : is_open (closing_by now Reason.User part.client.link).link.phase ≡ false
-      closed = close_closes now Reason.User part.client.link
-
   -- the end of a part
-  fallen_so_far : (part : ClientSoFar) (t : List (List ℕ)) → Risen 0 part t → SoFar (watched now (fallen part.client)) part.calls
+  fallen_so_far : (part : ClientSoFar) (t : List (List ℕ)) → Risen 0 part t → SoFar (fallen part.client) part.calls
   unfolding fallen
   fallen_so_far part t r = choose (is_up part.client.link.phase) refl
     where
@@ -487,7 +469,7 @@ module _ (site : Site) (node : Node) (peer : PeerState) (of : OfNode node peer) 
       count_is : (m : Midway 0 part.client.stage mid.g t) → m.count ≡ length took
       count_is m = let s = m.sum in let same = ap length mid.tracks.took in omega (arith, s, same)
 
-      choose : (b : Bool) → is_up part.client.link.phase ≡ b → SoFar (watched now (if b then part.client else record part.client { stage = Stage.Outside })) part.calls
+      choose : (b : Bool) → is_up part.client.link.phase ≡ b → SoFar (if b then part.client else record part.client { stage = Stage.Outside }) part.calls
       choose true e =
           let m = mid.inside e
           in record {
@@ -618,7 +600,7 @@ module _ (site : Site) (node : Node) (peer : PeerState) (of : OfNode node peer) 
       → ((count : ℕ) (g : List (List ℕ)) → ClientHasSaid site node peer part.client.stage count g → ClientHasSaid site node peer (stage_after_command command part.client.stage) count (g ++ commanded peer command ∷ []))
       → SoFar part.client part.calls → SoFar (commanding now command part).client (commanding now command part).calls
   unfolding commanding
-  commanding_so_far command part ready leads so = subst (λ (calls : List LinkCall). SoFar (watched now (fallen then_at.client)) calls) refl (fallen_so_far then_at t (by_post (posts told part mid.g t mid.tracks)))
+  commanding_so_far command part ready leads so = subst (λ (calls : List LinkCall). SoFar (fallen then_at.client) calls) refl (fallen_so_far then_at t (by_post (posts told part mid.g t mid.tracks)))
     where
       told : Message
       told = message_of command
@@ -690,24 +672,6 @@ module _ (site : Site) (node : Node) (peer : PeerState) (of : OfNode node peer) 
           m : Midway 0 part.client.stage mid.g t
           m = mid.inside up
 
-  -- a link that isn't caught up any more is closed
-  pub closing_so_far : (part : ClientSoFar) → SoFar part.client part.calls → SoFar (closing_behind now part).client (closing_behind now part).calls
-  unfolding closing_behind
-  closing_so_far part so = choose (is_behind now part.client)
-    where
-      t : List (List ℕ)
-      t = taken_after now (map (as_call connection) part.calls) link taken
-
-      r : Risen 0 part t
-      r = mid_of part so
-
-      shut : ClientSoFar
-      shut = calling now (Closes Reason.User) part
-
-      choose : (b : Bool) → SoFar (if b then ending now shut else part).client (if b then ending now shut else part).calls
-      choose true = fallen_so_far shut t (shut_risen part t r)
-      choose false = so
-
   -- a tick
   pub ticking_so_far : (part : ClientSoFar) → SoFar part.client part.calls → SoFar (ticking now part).client (ticking now part).calls
   unfolding ticking calling link_ticking beating opening opens requesting beginning sending
@@ -753,7 +717,7 @@ module _ (site : Site) (node : Node) (peer : PeerState) (of : OfNode node peer) 
           by_entered : (opening now ticked.client.link).link ≡ (entered now ticked.client.link).link → is_open (opening now ticked.client.link).link.phase ≡ true → (opening now ticked.client.link).link.phase ≡ ticked.client.link.phase
           by_entered same up = ap (λ (l : LinkState). l.phase) same ∙ ap (λ (s : Step). s.link.phase) (entered_open now ticked.client.link (ap (λ (l : LinkState). is_open l.phase) (sym same) ∙ up)).0
 
-      by_opened_of : (b : Bool) → Risen 0 (calling now Opens ticked) (if b then [] else t) → SoFar (watched now (fallen (calling now Opens ticked).client)) (calling now Opens ticked).calls
+      by_opened_of : (b : Bool) → Risen 0 (calling now Opens ticked) (if b then [] else t) → SoFar (fallen (calling now Opens ticked).client) (calling now Opens ticked).calls
       by_opened_of b r = fallen_so_far (calling now Opens ticked) (if b then [] else t) r
 
       opened_risen : (b : Bool) → opens now ticked.client.link ≡ b → Risen 0 (calling now Opens ticked) (if b then [] else t)

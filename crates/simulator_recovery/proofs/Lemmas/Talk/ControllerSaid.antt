@@ -1,7 +1,7 @@
 -- What a controller of a station has given by its stage, after each of its steps.
 use Rattle.simulator_recovery.proofs.Words.Basics.{◌≡◌, ℕ, ◌∙◌, true, List, [], refl, sym, ap, subst}
 use Rattle.simulator_recovery.proofs.Words.Links.{settled, reading_of, Ends, LinkState, is_open}
-use Rattle.simulator_recovery.proofs.Words.Controllers.{World, called_all, host_of, stepped, step_of as world_step, Behaviour, HostSoFar, HostState, fallen, then_do, IsNamedAs, beginning, host_step, item_of, Input, closing_behind, going_on, watched}
+use Rattle.simulator_recovery.proofs.Words.Controllers.{World, called_all, host_of, stepped, step_of as world_step, Behaviour, HostSoFar, HostState, fallen, then_do, IsNamedAs, beating, beginning, ending, given as given_in, host_step, most_owed, paying, item_of, Input}
 use Rattle.simulator_recovery.proofs.Words.Stations.{controller_after, step_of, ClockedControllerState}
 use Rattle.simulator_recovery.proofs.Words.Recovery.{IsSettled, HasCounted, HasSaidAt, HostHasSaid, HostStandsByCounts, StandsByWhatItSaid, TellsAsMany, LawsOfHost}
 use Rattle.simulator_recovery.proofs.Lemmas.Talk.HostWorld.{step_said, with_link}
@@ -11,14 +11,17 @@ use Rattle.simulator_recovery.proofs.Lemmas.Ground.LinkCounts.{settled_open, set
 module _ {Object : Type 0} (does : Behaviour Object) where
   begins_settled : (now : ℕ) (host : HostState Object) → beginning does now (record host { link = settled now host.link }) ≡ beginning does now host
   unfolding beginning
-  begins_settled now host = ap (λ (l : LinkState). from (record host { link = l })) (settled_twice now host.link)
-    where
-      from : HostState Object → HostState Object
-      from h = record (watched now (fallen does h)) { object = does.after_tick now (fallen does h).object }
+  begins_settled now host = ap (λ (l : LinkState). record (fallen does (record host { link = l })) { object = does.after_tick now (fallen does (record host { link = l })).object }) (settled_twice now host.link)
 
   step_settled : (now : ℕ) (input : Input) (host : HostState Object) → host_step does now input (record host { link = settled now host.link }) ≡ host_step does now input host
   unfolding host_step
-  step_settled now input host = ap (λ (h : HostState Object). then_do (closing_behind does now h) (going_on does now input)) (begins_settled now host)
+  step_settled now input host = ap whole (begins_settled now host)
+    where
+      done : HostState Object → HostSoFar Object
+      done h = then_do (then_do (given_in does now input h) (paying does now most_owed)) (beating now input)
+
+      whole : HostState Object → HostSoFar Object
+      whole h = record (done h) { host = ending does (done h).host }
 
   module _ (many : TellsAsMany does) (objects : ℕ) (kind : LawsOfHost does) (input : Input) (connection moment : ℕ) (c : ClockedControllerState Object) (ends : Ends)
       (link_is : ends.server.link ≡ settled (reading_of c.clock) c.host.link) (clock_is : ends.server.clock ≡ c.clock) where
@@ -26,7 +29,7 @@ module _ {Object : Type 0} (does : Behaviour Object) where
     now = reading_of c.clock
 
     abbrev pub world : World Object
-    world = record { ends = ends; stage = c.host.stage; object = c.host.object; own_name = c.host.own_name; peer_name = c.host.peer_name; version = c.host.version; caught_up_until = c.host.caught_up_until; is_strict = c.host.is_strict; acted = []; told = [] }
+    world = record { ends = ends; stage = c.host.stage; object = c.host.object; own_name = c.host.own_name; peer_name = c.host.peer_name; version = c.host.version; acted = []; told = [] }
 
     pub same_step : world_step does input world ≡ step_of does input c
     same_step = ap (λ (n : ℕ). host_step does n input (host_of world)) (ap reading_of clock_is)

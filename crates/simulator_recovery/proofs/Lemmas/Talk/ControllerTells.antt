@@ -2,7 +2,7 @@
 -- its steps. It has refused a version only where it has taken a check of another one.
 use Rattle.simulator_recovery.proofs.Words.Basics.{◌≡◌, ℕ, ◌++◌, ◌∙◌, Bool, true, false, List, [], ◌∷◌, append_assoc, Option, Some, None, Ok, refl, sym, ap, subst, false≢true, Result, Err}
 use Rattle.simulator_recovery.proofs.Words.Links.{receiving, settled, kept, outcome, reading_of, Ends, LinkState, is_open}
-use Rattle.simulator_recovery.proofs.Words.Controllers.{World, called_all, entering, stepped, step_of as world_step, reading, SciFault, Telegram, Behaviour, HostSoFar, HostState, LinkCall, Receives, call_made, items_given, items_taken, item_of, Input, Report, Stage, host_step}
+use Rattle.simulator_recovery.proofs.Words.Controllers.{World, called_all, entering, stepped, step_of as world_step, reading, SciFault, Telegram, Behaviour, HostSoFar, HostState, LinkCall, Receives, AreCallsFor, call_made, items_given, items_taken, item_of, Input, Report, Stage}
 use Rattle.simulator_recovery.proofs.Words.Stations.{step_of, ClockedControllerState}
 use Rattle.simulator_recovery.proofs.Words.Recovery.{HostStandsByCounts, TellsAsMany, given_before, SaidBy, SaidSome, SomeAsks, item_for, LawsOfHost}
 use Rattle.simulator_recovery.proofs.Lemmas.Talk.ControllerSaid.{same_step, settled_so, world}
@@ -11,8 +11,6 @@ use Rattle.simulator_recovery.proofs.Lemmas.Ground.HostKeeps.{Kept, ObjectKeeps,
 use Rattle.simulator_recovery.proofs.Lemmas.Talk.HostLinks.{step_stands}
 use Rattle.simulator_recovery.proofs.Lemmas.Talk.HostSaid.{AllTell, InputTells, ItemTells, StepSays, said_still, some_still, step_says_both}
 use Rattle.simulator_recovery.proofs.Lemmas.Ground.LinkCounts.{settled_open}
-use Rattle.simulator_recovery.proofs.Lemmas.Ground.FoundHosts.{IsCalm}
-use Rattle.simulator_recovery.proofs.Lemmas.Ground.HostCalls.{calm_comes}
 
 asks_longer : (version : ℕ) (items more : List (List ℕ)) → SomeAsks version items → SomeAsks version (items ++ more)
 asks_longer version items more s = record {
@@ -87,24 +85,17 @@ module _ {Object : Type 0} (does : Behaviour Object) (Fits : Object → Type 0) 
         ∙ ap (λ (l : LinkState). kept (entering input connection ends) ends.server.taken ++ items_taken now (world_step does input at).calls l) link_is
         ∙ ap (λ (s : HostSoFar Object). kept (entering input connection ends) ends.server.taken ++ items_taken now s.calls link) done_is
 
-    tells_first : (bytes : _) (others calls : List LinkCall) → calls ≡ Receives bytes.now ∷ others → after.taken ≡ kept (entering input connection ends) ends.server.taken ++ items_taken now calls link
-        → AllTell (SomeAsks version after.taken) version (receiving now bytes.now link).items
-    unfolding items_taken
-    tells_first bytes others calls is taken_so = subst (λ (list : List (List ℕ)). AllTell (SomeAsks version list) version (receiving now bytes.now link).items)
-        (ap (λ (list : List (List ℕ)). kept (entering input connection ends) ends.server.taken ++ list) (sym (ap (λ (cs : List LinkCall). items_taken now cs link) is)) ∙ sym taken_so)
-        (all_tell version (kept (entering input connection ends) ends.server.taken) (receiving now bytes.now link).items (items_taken now others (call_made now (Receives bytes.now) link).link))
-
     -- what comes is among what was taken then
-    input_tells : IsCalm does now c.host → InputTells (SomeAsks version after.taken) version now input link
-    input_tells = by_input input refl
+    input_tells : InputTells (SomeAsks version after.taken) version now input link
+    unfolding items_taken
+    input_tells = by_input input refl (laws.first now input c.host)
       where
-        by_input : (i : Input) → input ≡ i → IsCalm does now c.host → InputTells (SomeAsks version after.taken) version now i link
-        by_input Input.Tick e calm = tt
-        by_input (Input.Sense sense) e calm = tt
-        by_input (Input.Datagram bytes) e calm = in_calls (subst (λ (i : Input). (others : List LinkCall) × ((host_step does now i c.host).calls ≡ Receives bytes.now ∷ others)) (sym e) (calm_comes does now bytes c.host calm))
-          where
-            in_calls : (others : List LinkCall) × (done.calls ≡ Receives bytes.now ∷ others) → AllTell (SomeAsks version after.taken) version (receiving now bytes.now link).items
-            in_calls (others, is) = tells_first bytes others done.calls is taken_is
+        by_input : (i : Input) → input ≡ i → AreCallsFor i done.calls → InputTells (SomeAsks version after.taken) version now i link
+        by_input Input.Tick e calls = tt
+        by_input (Input.Sense sense) e calls = tt
+        by_input (Input.Datagram bytes) e (others, is, own) = subst (λ (list : List (List ℕ)). AllTell (SomeAsks version list) version (receiving now bytes.now link).items)
+            (ap (λ (list : List (List ℕ)). kept (entering input connection ends) ends.server.taken ++ list) (sym (ap (λ (cs : List LinkCall). items_taken now cs link) is)) ∙ sym taken_is)
+            (all_tell version (kept (entering input connection ends) ends.server.taken) (receiving now bytes.now link).items (items_taken now others (call_made now (Receives bytes.now) link).link))
 
     enters_none : is_open ends.server.link.phase ≡ true → entering input connection ends ≡ None
     unfolding outcome

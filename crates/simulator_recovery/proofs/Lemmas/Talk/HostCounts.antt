@@ -1,11 +1,10 @@
 -- The stage of a host tells how many items it has acted on in its connection.
 use Rattle.simulator_recovery.proofs.Words.Basics.{◌≡◌, ℕ, zero, suc, ◌+◌, ◌≤◌, Bool, true, false, not, List, [], ◌∷◌, ◌++◌, length, Option, Some, None, Result, Ok, Err, refl, sym, ap, subst, ◌∙◌, if◌then◌else◌, arith, ◌==◌, ◌&&◌, is_ok, false≢true, length-append}
-use Rattle.simulator_recovery.proofs.Words.Links.{answer_to_send, receiving, Receipt, is_open, SendFault, Reason}
-use Rattle.simulator_recovery.proofs.Words.Controllers.{reading, SciFault, NoMatch, Match, InitialisationCompleted, InitialisationRequest, StartInitialisation, VersionAnswer, VersionCheck, Message, Telegram, Behaviour, HostSoFar, HostState, at_stage, fallen, is_completed, is_outside, keeping, risen, said, silent, then_do, meaning, acting, acting_all, answering, beating, commanding, ending, following, given, goes_on, hearing, host_step, initialising, is_admitted, most_owed, paid, paying, paying_first, posting, received, violating, Input, Report, Stage, after_refusal, closes_when_refused, closing, found, going_on, watched}
+use Rattle.simulator_recovery.proofs.Words.Links.{answer_to_send, receiving, Receipt, is_open}
+use Rattle.simulator_recovery.proofs.Words.Controllers.{reading, SciFault, NoMatch, Match, InitialisationCompleted, InitialisationRequest, StartInitialisation, VersionAnswer, VersionCheck, Message, Telegram, Behaviour, HostSoFar, HostState, at_stage, fallen, is_completed, is_outside, keeping, risen, said, silent, then_do, meaning, acting, acting_all, answering, beating, beginning, commanding, ending, following, given, goes_on, hearing, host_step, initialising, is_admitted, most_owed, paid, paying, paying_first, posting, received, violating, Input, Report, Stage}
 use Rattle.simulator_recovery.proofs.Words.Recovery.{HostHasActedOn}
 use Rattle.simulator_spec.specs.object_host.Meaning.{commanding as by_stage}
 use Rattle.simulator_recovery.proofs.Lemmas.Ground.DueTests.{none_more}
-use Rattle.simulator_recovery.proofs.Lemmas.Ground.FoundHosts.{found_acted}
 
 module _ {Object : Type 0} (does : Behaviour Object) (now : ℕ) where
   -- a part of a step counts on
@@ -145,14 +144,6 @@ module _ {Object : Type 0} (does : Behaviour Object) (now : ℕ) where
   gives count (Input.Datagram bytes) host has = hears count bytes.now host has
   gives count (Input.Sense sense) host has = subst (HostHasActedOn host.stage) (sym (none_more count)) has
 
-  refusal_stays : (answer : Result Unit SendFault) (host : HostState Object) → Stays host (after_refusal does now answer host)
-  unfolding after_refusal
-  refusal_stays answer host = choose (closes_when_refused does answer host)
-    where
-      choose : (b : Bool) → Stays host (if b then closing now Reason.Window host else silent host)
-      choose true = record { stage_is = refl; acted = refl }
-      choose false = record { stage_is = refl; acted = refl }
-
   paying_first_stays : (report : Option Report) (host : HostState Object) → Stays host (paying_first does now report host)
   unfolding posting
   paying_first_stays None host = record { stage_is = refl; acted = refl }
@@ -161,13 +152,10 @@ module _ {Object : Type 0} (does : Behaviour Object) (now : ℕ) where
       sent : HostSoFar Object
       sent = posting now report host
 
-      refused : HostState Object → HostSoFar Object
-      refused = after_refusal does now (answer_to_send now host.link)
-
-      cases : (b c : Bool) → Stays host (if not b then silent (paid does host) else (if c then record sent { host = paid does sent.host } else then_do sent refused))
+      cases : (b c : Bool) → Stays host (if not b then silent (paid does host) else (if c then record sent { host = paid does sent.host } else sent))
       cases false c = record { stage_is = refl; acted = refl }
       cases true true = record { stage_is = refl; acted = refl }
-      cases true false = stays_then host sent refused (record { stage_is = refl; acted = refl }) (refusal_stays (answer_to_send now host.link))
+      cases true false = record { stage_is = refl; acted = refl }
 
   paying_stays : (most : ℕ) (host : HostState Object) → Stays host (paying does now most host)
   unfolding paying
@@ -190,29 +178,28 @@ module _ {Object : Type 0} (does : Behaviour Object) (now : ℕ) where
   record StillOpen (host after : HostState Object) : Type 0 where
     stage_is : is_open after.link.phase ≡ true → after.stage ≡ host.stage
 
-  ends : (host : HostState Object) → StillOpen host (ending does now host)
+  ends : (host : HostState Object) → StillOpen host (ending does host)
   unfolding fallen keeping
   ends host = choose (is_outside host.stage) (is_open host.link.phase) refl
     where
       lost : HostState Object
       lost = record host { stage = Stage.Outside; object = does.after_loss host.object }
 
-      choose : (b c : Bool) → is_open host.link.phase ≡ c → StillOpen host (keeping does (watched now (if not b && not c then lost else host)))
+      choose : (b c : Bool) → is_open host.link.phase ≡ c → StillOpen host (keeping does (if not b && not c then lost else host))
       choose true c e = record { stage_is = λ f. refl }
       choose false true e = record { stage_is = λ f. refl }
       choose false false e = record { stage_is = λ f. absurd (false≢true (sym e ∙ f)) }
 
-  pub step_counts : (count : ℕ) (input : Input) (host : HostState Object) → HostHasActedOn (found does now host).host.stage count → is_open (host_step does now input host).host.link.phase ≡ true
+  pub step_counts : (count : ℕ) (input : Input) (host : HostState Object) → HostHasActedOn (beginning does now host).stage count → is_open (host_step does now input host).host.link.phase ≡ true
       → HostHasActedOn (host_step does now input host).host.stage (count + length (host_step does now input host).acted)
-  unfolding host_step going_on
-  step_counts count input host has open_still = subst (λ (s : Stage). HostHasActedOn s (count + length ((found does now host).acted ++ done.acted))) (sym ((ends done.host).stage_is open_still))
-      (subst (λ (list : List (List ℕ)). HostHasActedOn done.host.stage (count + length (list ++ done.acted))) (sym (found_acted does now host))
-      (counts_then count told_so (beating now input) (counts_then count heard (paying does now most_owed) (gives count input (found does now host).host has)
+  unfolding host_step
+  step_counts count input host has open_still = subst (λ (s : Stage). HostHasActedOn s (count + length done.acted)) (sym ((ends done.host).stage_is open_still))
+      (counts_then count told_so (beating now input) (counts_then count heard (paying does now most_owed) (gives count input (beginning does now host) has)
       (λ more so. stays_counts more heard.host (paying does now most_owed heard.host) (paying_stays most_owed heard.host) so))
-      (λ more so. stays_counts more told_so.host (beating now input told_so.host) (beating_stays input told_so.host) so)))
+      (λ more so. stays_counts more told_so.host (beating now input told_so.host) (beating_stays input told_so.host) so))
     where
       heard : HostSoFar Object
-      heard = given does now input (found does now host).host
+      heard = given does now input (beginning does now host)
 
       told_so : HostSoFar Object
       told_so = then_do heard (paying does now most_owed)

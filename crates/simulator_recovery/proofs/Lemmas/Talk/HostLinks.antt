@@ -1,12 +1,11 @@
 -- While the link of a host is open it counts what the stage tells.
 use Rattle.simulator_recovery.proofs.Words.Basics.{◌≡◌, ℕ, zero, suc, ◌∙◌, ◌+◌, ◌≤◌, ◌<◌, ◌⊎◌, inl, inr, Bool, true, false, not, ◌&&◌, ◌==◌, List, [], ◌∷◌, length, Option, Some, None, Result, Ok, Err, if◌then◌else◌, refl, sym, ap, subst, arith, is_ok, false≢true}
-use Rattle.simulator_recovery.proofs.Words.Links.{answer_to_send, created, receiving, sending_item, ticking, settled, Receipt, LinkState, is_open, is_up, Identity, Reason, SendFault}
-use Rattle.simulator_recovery.proofs.Words.Controllers.{reading, SciFault, NoMatch, Match, InitialisationCompleted, InitialisationRequest, StartInitialisation, VersionAnswer, VersionCheck, Message, Telegram, Behaviour, HostSoFar, HostState, at_stage, fallen, is_completed, is_outside, keeping, risen, said, silent, then_do, new_host, meaning, Keeps, Loses, Pays, Senses, Takes, Ticks, acting, acting_all, answering, beating, beginning, commanding, ending, following, given as given_in, goes_on, hearing, host_step, initial_status, initialising, is_admitted, most_objects, most_owed, paid, paying, paying_first, posting, posting_all, received, report_then, violating, item_of, Input, Report, Stage, after_refusal, closes_when_refused, closing, found, going_on, restrictive_from, watched}
+use Rattle.simulator_recovery.proofs.Words.Links.{answer_to_send, created, receiving, sending_item, ticking, alive_until, settled, Receipt, LinkState, is_open, is_up, Identity, Reason}
+use Rattle.simulator_recovery.proofs.Words.Controllers.{reading, SciFault, NoMatch, Match, InitialisationCompleted, InitialisationRequest, StartInitialisation, VersionAnswer, VersionCheck, Message, Telegram, Behaviour, HostSoFar, HostState, at_stage, fallen, is_completed, is_outside, keeping, risen, said, silent, then_do, new_host, meaning, Keeps, Loses, Pays, Senses, Takes, Ticks, acting, acting_all, answering, beating, beginning, commanding, ending, following, given as given_in, goes_on, hearing, host_step, initial_status, initialising, is_admitted, most_objects, most_owed, paid, paying, paying_first, posting, posting_all, received, report_then, violating, item_of, Input, Report, Stage}
 use Rattle.simulator_recovery.proofs.Words.Recovery.{HostHasActedOn, HasCounted, HostHasGiven, HostStandsByCounts, TellsAsMany, objects_told}
 use Rattle.simulator_spec.specs.object_host.Meaning.{commanding as by_stage}
 use Rattle.simulator_recovery.proofs.Lemmas.Ground.LinkCounts.{AfterReceipt, AfterSend, close_closes, comes_in, receipt_counts, send_counts, send_was_open, settled_again, settled_open, stays_in, tick_counts, tick_was_open}
 use Rattle.simulator_recovery.proofs.Lemmas.Ground.DueTests.{none_more, one_fewer}
-use Rattle.simulator_recovery.proofs.Lemmas.Ground.FoundHosts.{by_found, shut, shut_object, shut_rests, shut_settled}
 
 module _ {Object : Type 0} (does : Behaviour Object) (many : TellsAsMany does) (objects : ℕ) (now : ℕ) where
   abbrev pub Tells : Object → Type 0
@@ -258,7 +257,7 @@ module _ {Object : Type 0} (does : Behaviour Object) (many : TellsAsMany does) (
       lost = record at { stage = Stage.Outside; object = does.after_loss host.object }
 
       ticked : HostState Object → HostState Object
-      ticked h = record (watched now h) { object = does.after_tick now h.object }
+      ticked h = record h { object = does.after_tick now h.object }
 
       counted : is_open (settled now host.link).phase ≡ true → Midway 0 (ticked at)
       counted e =
@@ -283,17 +282,6 @@ module _ {Object : Type 0} (does : Behaviour Object) (many : TellsAsMany does) (
         link = host.link;
         link_is = refl;
       }
-
-  pub finds : (host : HostState Object) → HostStandsByCounts does objects host → Begun (found does now host).host
-  finds host stands = by_found does now (λ (part : HostSoFar Object). Begun part.host) host (λ calm. begins host stands) (λ behind. let rests = shut_rests does now host behind in record {
-    mid = record {
-      tells = shut_object does now Tells (λ object is. many.same Loses object ∙ is) (beginning does now host) (begins host stands).mid.tells;
-      midway = λ opened. absurd (false≢true (sym rests.closed.closed ∙ opened));
-    };
-    outside = λ closed. rests.stage_is;
-    link = (shut does now (beginning does now host)).host.link;
-    link_is = sym (shut_settled does now (beginning does now host));
-  })
 
   -- ---- what comes
 
@@ -424,15 +412,6 @@ module _ {Object : Type 0} (does : Behaviour Object) (many : TellsAsMany does) (
         up = inl refl;
       }
 
-  -- a report that is refused may close the link
-  refused_mid : (answer : Result Unit SendFault) (host : HostState Object) → Mid 0 host → Mid 0 (after_refusal does now answer host).host
-  unfolding after_refusal
-  refused_mid answer host mid = choose (closes_when_refused does answer host)
-    where
-      choose : (b : Bool) → Mid 0 (if b then closing now Reason.Window host else silent host).host
-      choose true = record { tells = mid.tells; midway = λ opened. absurd (false≢true (sym (close_closes now Reason.Window host.link) ∙ opened)) }
-      choose false = mid
-
   pub pays_first : (report : Option Report) (host : HostState Object) → Mid 0 host → Mid 0 (paying_first does now report host).host
   pays_first None host mid = mid
   pays_first (Some report) host mid = choose (is_completed host.stage) refl (is_ok (answer_to_send now host.link))
@@ -440,10 +419,10 @@ module _ {Object : Type 0} (does : Behaviour Object) (many : TellsAsMany does) (
       sent : HostSoFar Object
       sent = posting now report host
 
-      choose : (b : Bool) → is_completed host.stage ≡ b → (c : Bool) → Mid 0 (if not b then silent (paid does host) else (if c then record sent { host = paid does sent.host } else then_do sent (after_refusal does now (answer_to_send now host.link)))).host
+      choose : (b : Bool) → is_completed host.stage ≡ b → (c : Bool) → Mid 0 (if not b then silent (paid does host) else (if c then record sent { host = paid does sent.host } else sent)).host
       choose false e c = paid_mid host mid
       choose true e true = paid_mid sent.host (reports report host e mid)
-      choose true e false = refused_mid (answer_to_send now host.link) sent.host (reports report host e mid)
+      choose true e false = reports report host e mid
 
   pub pays : (most : ℕ) (host : HostState Object) → Mid 0 host → Mid 0 (paying does now most host).host
   unfolding paying
@@ -469,7 +448,7 @@ module _ {Object : Type 0} (does : Behaviour Object) (many : TellsAsMany does) (
 
   -- ---- and how it ends
 
-  ends : (host : HostState Object) → Mid 0 host → HostStandsByCounts does objects (ending does now host)
+  ends : (host : HostState Object) → Mid 0 host → HostStandsByCounts does objects (ending does host)
   unfolding fallen keeping
   ends host mid = choose (is_outside host.stage) (is_open host.link.phase) refl
     where
@@ -477,25 +456,25 @@ module _ {Object : Type 0} (does : Behaviour Object) (many : TellsAsMany does) (
       lost = record host { stage = Stage.Outside; object = does.after_loss host.object }
 
       kept_at : HostState Object → HostState Object
-      kept_at h = record (watched now h) { object = does.after_keep (restrictive_from (watched now h)) h.object }
+      kept_at h = record h { object = does.after_keep (alive_until h.link) h.object }
 
       as_it_is : HostStandsByCounts does objects (kept_at host)
       as_it_is = record {
-        tells = many.same (Keeps (restrictive_from (watched now host))) host.object ∙ mid.tells;
+        tells = many.same (Keeps (alive_until host.link)) host.object ∙ mid.tells;
         stands = λ e. let m = mid.midway e in record { taken = m.taken; given = m.given; counts = subst (λ (n : ℕ). HasCounted n m.given host.link) (none_more m.taken) m.counts; acted = m.acted; gave = m.gave };
       }
 
       choose : (a b : Bool) → is_open host.link.phase ≡ b → HostStandsByCounts does objects (kept_at (if not a && not b then lost else host))
       choose true b e = as_it_is
       choose false true e = as_it_is
-      choose false false e = record { tells = many.same (Keeps _) (does.after_loss host.object) ∙ many.same Loses host.object ∙ mid.tells; stands = λ f. absurd (false≢true (sym e ∙ f)) }
+      choose false false e = record { tells = many.same (Keeps (alive_until host.link)) (does.after_loss host.object) ∙ many.same Loses host.object ∙ mid.tells; stands = λ f. absurd (false≢true (sym e ∙ f)) }
 
   pub step_stands : (input : Input) (host : HostState Object) → HostStandsByCounts does objects host → HostStandsByCounts does objects (host_step does now input host).host
-  unfolding host_step going_on
-  step_stands input host stands = ends done.host (beats input paid_so (pays most_owed heard.host (gives input (found does now host).host (finds host stands))))
+  unfolding host_step
+  step_stands input host stands = ends done.host (beats input paid_so (pays most_owed heard.host (gives input (beginning does now host) (begins host stands))))
     where
       heard : HostSoFar Object
-      heard = given_in does now input (found does now host).host
+      heard = given_in does now input (beginning does now host)
 
       paid_so : HostState Object
       paid_so = (paying does now most_owed heard.host).host
@@ -504,10 +483,10 @@ module _ {Object : Type 0} (does : Behaviour Object) (many : TellsAsMany does) (
       done = beating now input paid_so
 
 -- a new host
-pub new_stands : {Object : Type 0} (does : Behaviour Object) → TellsAsMany does → (objects : ℕ) (identity : Identity) (own_name peer_name : List ℕ) (first now : ℕ) (object : Object) (version : ℕ) (is_strict : Bool) → objects_told does object ≡ objects
-    → HostStandsByCounts does objects (new_host does identity own_name peer_name first now object version is_strict)
+pub new_stands : {Object : Type 0} (does : Behaviour Object) → TellsAsMany does → (objects : ℕ) (identity : Identity) (own_name peer_name : List ℕ) (first now : ℕ) (object : Object) (version : ℕ) → objects_told does object ≡ objects
+    → HostStandsByCounts does objects (new_host does identity own_name peer_name first now object version)
 unfolding new_host keeping created
-new_stands does many objects identity own_name peer_name first now object version is_strict tells = record {
+new_stands does many objects identity own_name peer_name first now object version tells = record {
   tells = many.same (Keeps _) (does.after_loss object) ∙ many.same Loses object ∙ tells;
   stands = λ e. absurd (false≢true e);
 }

@@ -1,7 +1,7 @@
 -- What a host has given in its connection, by its stage.
 use Rattle.simulator_recovery.proofs.Words.Basics.{◌≡◌, ℕ, zero, suc, ◌∙◌, ◌+◌, ◌≤◌, Bool, true, false, not, ◌&&◌, ◌==◌, List, [], ◌∷◌, ◌++◌, length, map, append_assoc, append-nil, Option, Some, None, Result, Ok, Err, if◌then◌else◌, refl, sym, ap, subst, arith, is_ok, false≢true, nat_tests}
-use Rattle.simulator_recovery.proofs.Words.Links.{answer_to_send, receiving, settled, LinkState, is_open, Reason, Each, SendFault}
-use Rattle.simulator_recovery.proofs.Words.Controllers.{reading, SciFault, NoMatch, Match, InitialisationCompleted, InitialisationRequest, StartInitialisation, VersionAnswer, VersionCheck, Message, Protocol, Telegram, Behaviour, Closes, HostSoFar, Sends, HostState, LinkCall, at_stage, fallen, is_completed, is_outside, keeping, risen, said, silent, then_do, call_made, calls_made, items_given, items_given_by, meaning, acting, acting_all, answering, beating, beginning, commanding, ending, following, given as given_in, goes_on, hearing, host_step, initial_status, initialising, is_admitted, is_from_peer, is_in_version, most_objects, most_owed, paid, paying, paying_first, posting, posting_all, received, violating, initialisation, item_of, Input, Report, Stage, after_refusal, closes_when_refused, closing, going_on, watched, is_behind}
+use Rattle.simulator_recovery.proofs.Words.Links.{answer_to_send, receiving, settled, LinkState, is_open, Reason, Each}
+use Rattle.simulator_recovery.proofs.Words.Controllers.{reading, SciFault, NoMatch, Match, InitialisationCompleted, InitialisationRequest, StartInitialisation, VersionAnswer, VersionCheck, Message, Protocol, Telegram, Behaviour, Closes, HostSoFar, Sends, HostState, LinkCall, at_stage, fallen, is_completed, is_outside, keeping, risen, said, silent, then_do, call_made, calls_made, items_given, items_given_by, meaning, acting, acting_all, answering, beating, beginning, commanding, ending, following, given as given_in, goes_on, hearing, host_step, initial_status, initialising, is_admitted, is_from_peer, is_in_version, most_objects, most_owed, paid, paying, paying_first, posting, posting_all, received, violating, initialisation, item_of, Input, Report, Stage}
 use Rattle.simulator_recovery.proofs.Words.Recovery.{HostHasGiven, HostHasSaid, HostStandsByCounts, IsOwed, TellsAsMany, given_before, Begins, OwedFit, SaidAll, SaidBy, SaidSome}
 use Rattle.simulator_spec.specs.object_host.Meaning.{commanding as by_stage}
 use Rattle.simulator_recovery.proofs.Lemmas.Talk.GivenPrefix.{first_given, ok_open, sends, shut_gives}
@@ -10,7 +10,6 @@ use Rattle.simulator_recovery.proofs.Lemmas.Talk.HostLinks.{Begun, Mid, Said, ac
 use Rattle.simulator_recovery.proofs.Lemmas.Ground.LinkCounts.{close_closes, tick_was_open}
 use Rattle.simulator_recovery.proofs.Lemmas.Ground.EndCalls.{each_both, map_both}
 use Rattle.simulator_recovery.proofs.Lemmas.Ground.DueTests.{last_true}
-use Rattle.simulator_recovery.proofs.Lemmas.Ground.FoundHosts.{ClosesNow, IsShutStep, shut_step, step_calm, IsCalm}
 
 -- ---- calls
 
@@ -90,13 +89,9 @@ module _ {Object : Type 0} (does : Behaviour Object) (many : TellsAsMany does) (
   unfolding items_given calls_made
   says_none items host after is same has = record { is = is; made = same; says = λ e. subst (SaidBy does Fits Wrong item version after.stage) (sym (append-nil items)) (has.said_now e); ever = none_more items has.ever }
 
-  says_shut : (why : Reason) (items : List (List ℕ)) (host after : HostState Object) → Is after → after.link ≡ host.link → SaidSome does Fits Wrong item version items → Says items host (closing now why after)
-  unfolding calls_made items_given
-  says_shut why items host after is same ever = record { is = record { items = is.items; version_is = is.version_is; fits = is.fits }; ever = none_more items ever; made = ap (λ (l : LinkState). (call_made now (Closes why) l).link) same; says = λ e. absurd (false≢true (sym (close_closes now why after.link) ∙ e)) }
-
   says_closed : (items : List (List ℕ)) (host after : HostState Object) → Is after → after.link ≡ host.link → SaidSome does Fits Wrong item version items → Says items host (violating now after)
-  unfolding violating
-  says_closed items host after is same ever = says_shut Reason.State items host after is same ever
+  unfolding violating calls_made items_given
+  says_closed items host after is same ever = record { is = record { items = is.items; version_is = is.version_is; fits = is.fits }; ever = none_more items ever; made = ap (λ (l : LinkState). (call_made now (Closes Reason.State) l).link) same; says = λ e. absurd (false≢true (sym (close_closes now Reason.State after.link) ∙ e)) }
 
   -- ---- reports
 
@@ -465,15 +460,6 @@ module _ {Object : Type 0} (does : Behaviour Object) (many : TellsAsMany does) (
       by_answer true ok = some_of host.stage (items ++ ((if is_ok (answer_to_send now host.link) then item_of host report ∷ [] else []) ++ [])) (by_stage host.stage done (has.said_now (ok_open now host.link ok)))
       by_answer false denied = subst (λ (b : Bool). SaidSome does Fits Wrong item version (items ++ ((if b then item_of host report ∷ [] else []) ++ []))) (sym denied) (none_more items has.ever)
 
-  -- a report that is refused may close the link
-  refused_says : (items : List (List ℕ)) (answer : Result Unit SendFault) (host : HostState Object) → Is host → Has items host → Says items host (after_refusal does now answer host)
-  unfolding after_refusal
-  refused_says items answer host is has = choose (closes_when_refused does answer host)
-    where
-      choose : (b : Bool) → Says items host (if b then closing now Reason.Window host else silent host)
-      choose true = says_shut Reason.Window items host host is refl has.ever
-      choose false = says_none items host host is refl has
-
   first_says : (items : List (List ℕ)) (report : Option Report) (host : HostState Object) → does.owed host.object ≡ report → Is host → Has items host → Says items host (paying_first does now report host)
   first_says items None host owes is has = says_none items host host is refl has
   first_says items (Some report) host owes is has = choose (is_completed host.stage) refl (is_ok (answer_to_send now host.link))
@@ -481,17 +467,13 @@ module _ {Object : Type 0} (does : Behaviour Object) (many : TellsAsMany does) (
       sent : HostSoFar Object
       sent = posting now report host
 
-      refused : HostState Object → HostSoFar Object
-      refused = after_refusal does now (answer_to_send now host.link)
-
       settled_so : Says items host sent → Says items host (record sent { host = paid does sent.host })
       settled_so s = record { is = record { items = s.is.items; version_is = s.is.version_is; fits = keep.pays sent.host.object s.is.fits }; made = s.made; says = s.says; ever = s.ever }
 
-      choose : (b : Bool) → is_completed host.stage ≡ b → (c : Bool) → Says items host (if not b then silent (paid does host) else (if c then record sent { host = paid does sent.host } else then_do sent refused))
+      choose : (b : Bool) → is_completed host.stage ≡ b → (c : Bool) → Says items host (if not b then silent (paid does host) else (if c then record sent { host = paid does sent.host } else sent))
       choose false e c = says_none items host (paid does host) (record { items = is.items; version_is = is.version_is; fits = keep.pays host.object is.fits }) refl (record { said_now = has.said_now; ever = has.ever })
       choose true e true = settled_so (report_says items report host owes e is has)
-      choose true e false = let first = report_says items report host owes e is has in says_then items host sent refused first
-          (refused_says (items ++ items_given now sent.calls host.link) (answer_to_send now host.link) sent.host first.is (has_of items host sent first))
+      choose true e false = report_says items report host owes e is has
 
   pay_says : (items : List (List ℕ)) (most : ℕ) (host : HostState Object) → Is host → Has items host → Says items host (paying does now most host)
   unfolding paying
@@ -525,14 +507,14 @@ module _ {Object : Type 0} (does : Behaviour Object) (many : TellsAsMany does) (
     items : item_of after ≡ item_of host
     version_same : after.version ≡ host.version
 
-  ended : (host : HostState Object) → StillOpen host (ending does now host)
+  ended : (host : HostState Object) → StillOpen host (ending does host)
   unfolding fallen keeping
   ended host = choose (is_outside host.stage) (is_open host.link.phase) refl
     where
       lost : HostState Object
       lost = record host { stage = Stage.Outside; object = does.after_loss host.object }
 
-      choose : (b c : Bool) → is_open host.link.phase ≡ c → StillOpen host (keeping does (watched now (if not b && not c then lost else host)))
+      choose : (b c : Bool) → is_open host.link.phase ≡ c → StillOpen host (keeping does (if not b && not c then lost else host))
       choose true c e = record { link = refl; stage_is = λ f. refl; items = refl; version_same = refl }
       choose false true e = record { link = refl; stage_is = λ f. refl; items = refl; version_same = refl }
       choose false false e = record { link = refl; stage_is = λ f. absurd (false≢true (sym e ∙ f)); items = refl; version_same = refl }
@@ -548,7 +530,7 @@ module _ {Object : Type 0} (does : Behaviour Object) (many : TellsAsMany does) (
       lost = record at { stage = Stage.Outside; object = does.after_loss host.object }
 
       ticked : HostState Object → HostState Object
-      ticked h = record (watched now h) { object = does.after_tick now h.object }
+      ticked h = record h { object = does.after_tick now h.object }
 
       choose : (b c : Bool) → is_open (settled now host.link).phase ≡ c → StillOpen at (ticked (if not b && not c then lost else at))
       choose true c e = record { link = refl; stage_is = λ f. refl; items = refl; version_same = refl }
@@ -556,33 +538,15 @@ module _ {Object : Type 0} (does : Behaviour Object) (many : TellsAsMany does) (
       choose false false e = record { link = refl; stage_is = λ f. absurd (false≢true (sym e ∙ f)); items = refl; version_same = refl }
 
   -- what a step says
-  pub record PartSays (items : List (List ℕ)) (host : HostState Object) (part : HostSoFar Object) : Type 0 where
-    pub says : is_open part.host.link.phase ≡ true → SaidBy does Fits Wrong item version part.host.stage (given_before (is_open (settled now host.link).phase) items ++ items_given now part.calls (settled now host.link))
-    pub ever : SaidSome does Fits Wrong item version (given_before (is_open (settled now host.link).phase) items ++ items_given now part.calls (settled now host.link))
+  pub record StepSays (items : List (List ℕ)) (input : Input) (host : HostState Object) : Type 0 where
+    pub says : is_open (host_step does now input host).host.link.phase ≡ true → SaidBy does Fits Wrong item version (host_step does now input host).host.stage
+        (given_before (is_open (settled now host.link).phase) items ++ items_given now (host_step does now input host).calls (settled now host.link))
+    pub ever : SaidSome does Fits Wrong item version (given_before (is_open (settled now host.link).phase) items ++ items_given now (host_step does now input host).calls (settled now host.link))
 
-  abbrev pub StepSays : List (List ℕ) → Input → HostState Object → Type 0
-  StepSays items input host = PartSays items host (host_step does now input host)
-
-  -- one that closes its link first says nothing
-  shut_says : (items : List (List ℕ)) (input : Input) (host : HostState Object) → ClosesNow does now host → SaidSome does Fits Wrong item version items → StepSays items input host
-  shut_says items input host behind ever = record {
-    says = λ opened. absurd (false≢true (sym step.closed ∙ opened));
-    ever = subst (λ (list : List (List ℕ)). SaidSome does Fits Wrong item version (given_before (is_open (settled now host.link).phase) items ++ list)) (sym step.gives)
-        (none_more (given_before (is_open (settled now host.link).phase) items) (by_open (is_open (settled now host.link).phase)));
-  }
-    where
-      step : IsShutStep does now host (host_step does now input host)
-      step = shut_step does now input host behind
-
-      by_open : (b : Bool) → SaidSome does Fits Wrong item version (given_before b items)
-      by_open true = ever
-      by_open false = some_of Stage.Outside [] refl
-
-  -- one that doesn't says what its parts say
-  calm_says : (items : List (List ℕ)) (input : Input) (host : HostState Object) → InputTells Wrong version now input (settled now host.link) → HostStandsByCounts does objects host → item_of host ≡ item → host.version ≡ version → Fits host.object
-      → (is_open (settled now host.link).phase ≡ true → SaidBy does Fits Wrong item version host.stage items) → SaidSome does Fits Wrong item version items → PartSays items host (going_on does now input (beginning does now host))
-  unfolding going_on
-  calm_says items input host tells stands named spoken fits has ever = record {
+  pub step_says_both : (items : List (List ℕ)) (input : Input) (host : HostState Object) → InputTells Wrong version now input (settled now host.link) → HostStandsByCounts does objects host → item_of host ≡ item → host.version ≡ version → Fits host.object
+      → (is_open (settled now host.link).phase ≡ true → SaidBy does Fits Wrong item version host.stage items) → SaidSome does Fits Wrong item version items → StepSays items input host
+  unfolding host_step
+  step_says_both items input host tells stands named spoken fits has ever = record {
     says = λ e.
         let open_done = ap (λ (l : LinkState). is_open l.phase) (sym (ended done.host).link) ∙ e
         in subst (λ (s : Stage). SaidBy does Fits Wrong item version s (given_before (is_open (settled now host.link).phase) items ++ items_given now done.calls (settled now host.link))) (sym ((ended done.host).stage_is open_done))
@@ -628,14 +592,6 @@ module _ {Object : Type 0} (does : Behaviour Object) (many : TellsAsMany does) (
 
       all : Says old first done
       all = says_then old first told_so (beating now input) told_says (beat_says (old ++ items_given now told_so.calls first.link) input told_so.host told_says.is (has_of old first told_so told_says))
-
-  pub step_says_both : (items : List (List ℕ)) (input : Input) (host : HostState Object) → (IsCalm does now host → InputTells Wrong version now input (settled now host.link)) → HostStandsByCounts does objects host → item_of host ≡ item → host.version ≡ version → Fits host.object
-      → (is_open (settled now host.link).phase ≡ true → SaidBy does Fits Wrong item version host.stage items) → SaidSome does Fits Wrong item version items → StepSays items input host
-  step_says_both items input host tells stands named spoken fits has ever = either_way (is_behind now (beginning does now host)) refl
-    where
-      either_way : (b : Bool) → is_behind now (beginning does now host) ≡ b → StepSays items input host
-      either_way true behind = shut_says items input host behind ever
-      either_way false calm = subst (PartSays items host) (sym (step_calm does now input host calm)) (calm_says items input host (tells calm) stands named spoken fits has ever)
 
 -- where a wrong version was asked once, it was asked
 module _ {Object : Type 0} (does : Behaviour Object) (Fits : Object → Type 0) (item : Report → List ℕ) (version : ℕ) (One Other : Type 0) (leads : One → Other) where
@@ -708,7 +664,7 @@ module _ {Object : Type 0} (does : Behaviour Object) (item : Report → List ℕ
 
       by_open : (b : Bool) → is_open (settled now host.link).phase ≡ b
           → SaidBy does Any (Unit {0}) item version (host_step does now input host).host.stage (given_before (is_open (settled now host.link).phase) items ++ items_given now (host_step does now input host).calls (settled now host.link))
-      by_open true f = (step_says_both does many objects now item version Any (Unit {0}) any_keeps items input host (λ calm. any_tells (settled now host.link) input) stands named spoken tt (λ g. said_as host.stage items (has g)) (some true f)).says e
+      by_open true f = (step_says_both does many objects now item version Any (Unit {0}) any_keeps items input host (any_tells (settled now host.link) input) stands named spoken tt (λ g. said_as host.stage items (has g)) (some true f)).says e
       by_open false f = subst (λ (b : Bool). SaidBy does Any (Unit {0}) item version (host_step does now input host).host.stage (given_before b items ++ items_given now (host_step does now input host).calls (settled now host.link))) (sym f)
           (subst (λ (b : Bool). SaidBy does Any (Unit {0}) item version (host_step does now input host).host.stage (given_before b [] ++ items_given now (host_step does now input host).calls (settled now host.link))) f
-          ((step_says_both does many objects now item version Any (Unit {0}) any_keeps [] input host (λ calm. any_tells (settled now host.link) input) stands named spoken tt (λ g. absurd (false≢true (sym f ∙ g))) (record { by = Stage.Outside; whole = []; said = none_said; begins = record { rest = []; are = refl } })).says e))
+          ((step_says_both does many objects now item version Any (Unit {0}) any_keeps [] input host (any_tells (settled now host.link) input) stands named spoken tt (λ g. absurd (false≢true (sym f ∙ g))) (record { by = Stage.Outside; whole = []; said = none_said; begins = record { rest = []; are = refl } })).says e))

@@ -1,11 +1,10 @@
 -- In a world of a commanding client and a host, the stage of the host tells how many items it has acted on in its connection.
 use Rattle.simulator_recovery.proofs.Words.Basics.{◌≡◌, ℕ, ◌+◌, Bool, true, false, not, List, ◌++◌, length, Option, Some, None, refl, sym, ap, subst, ◌∙◌, if◌then◌else◌, arith, ◌&&◌, nat_le, false≢true, length-append}
 use Rattle.simulator_recovery.proofs.Words.Links.{created, deadline, settled, end_later, end_restarted, kept, outcome, reading_of, Start, Names, called, later, lost, restarted, LinkState, is_open, Phase}
-use Rattle.simulator_recovery.proofs.Words.Controllers.{ClientRestarts, Commands, Elsewhere, Event, HostRestarts, Passes, Steps, World, entering, happened, host_of, host_restarted, step_of, stepped, Behaviour, HostState, fallen, is_outside, new_host, beginning, Input, Stage, found, watched, HostSoFar}
+use Rattle.simulator_recovery.proofs.Words.Controllers.{ClientRestarts, Commands, Elsewhere, Event, HostRestarts, Passes, Steps, World, entering, happened, host_of, host_restarted, step_of, stepped, Behaviour, HostState, fallen, is_outside, new_host, beginning, Input, Stage}
 use Rattle.simulator_recovery.proofs.Words.Recovery.{HostHasActedOn, IsSettled, StandsAtItsStage, LawsOfHost}
 use Rattle.object_host_laws.specs.World.{Loses, begun}
 use Rattle.simulator_recovery.proofs.Lemmas.Talk.HostCounts.{step_counts}
-use Rattle.simulator_recovery.proofs.Lemmas.Ground.FoundHosts.{found_calm, open_calm}
 
 -- a host whose link is open enters no connection
 pub enters_none : {Object : Type 0} (input : Input) (connection : ℕ) (world : World Object) → is_open world.ends.server.link.phase ≡ true → entering input connection world.ends ≡ None
@@ -22,14 +21,14 @@ module _ {Object : Type 0} (does : Behaviour Object) (laws : LawsOfHost does) wh
 
   begins : (world : World Object) → IsSettled world → Begins world (beginning does (reading_of world.ends.server.clock) (host_of world))
   unfolding fallen beginning
-  begins world is = subst (λ (l : LinkState). Begins world (told (fallen does (record (host_of world) { link = l })))) (sym is)
+  begins world is = subst (λ (l : LinkState). Begins world (record (fallen does (record (host_of world) { link = l })) { object = does.after_tick (reading_of world.ends.server.clock) (fallen does (record (host_of world) { link = l })).object })) (sym is)
       (choose world.stage refl (is_open world.ends.server.link.phase) refl)
     where
       lost : HostState Object
       lost = record (host_of world) { stage = Stage.Outside; object = does.after_loss world.object }
 
       told : HostState Object → HostState Object
-      told host = record (watched (reading_of world.ends.server.clock) host) { object = does.after_tick (reading_of world.ends.server.clock) host.object }
+      told host = record host { object = does.after_tick (reading_of world.ends.server.clock) host.object }
 
       outside_is : (s : Stage) → is_outside s ≡ true → s ≡ Stage.Outside
       outside_is Stage.Outside e = refl
@@ -62,12 +61,8 @@ module _ {Object : Type 0} (does : Behaviour Object) (laws : LawsOfHost does) wh
       still_open : is_open (step_of does input world).host.link.phase ≡ true
       still_open = ap (λ (l : LinkState). is_open l.phase) (sym (laws.link input connection world is)) ∙ open_after
 
-      -- it was calm, as it is in a connection behind the step
-      found_is : (found does now (host_of world)).host ≡ beginning does now (host_of world)
-      found_is = ap (λ (part : HostSoFar Object). part.host) (found_calm does now (host_of world) (open_calm does now input (host_of world) still_open))
-
       counted : (count : ℕ) → HostHasActedOn (beginning does now (host_of world)).stage count → HostHasActedOn (step_of does input world).host.stage (count + length acted)
-      counted count has = step_counts does now count input (host_of world) (subst (λ (h : HostState Object). HostHasActedOn h.stage count) (sym found_is) has) still_open
+      counted count has = step_counts does now count input (host_of world) has still_open
 
       Behind : Option ℕ → Type 0
       Behind entered = HostHasActedOn (step_of does input world).host.stage (length (kept entered world.acted ++ acted))
@@ -99,6 +94,6 @@ module _ {Object : Type 0} (does : Behaviour Object) (laws : LawsOfHost does) wh
   stands_on (HostRestarts clock first object) world is stands = λ e. absurd (false≢true e)
   stands_on (Elsewhere count) world is stands = stands
 
-  pub stands_first : (names : Names) (start : Start) (own_name peer_name : List ℕ) (object : Object) (version : ℕ) (is_strict : Bool) → StandsAtItsStage (begun does names start own_name peer_name object version is_strict)
+  pub stands_first : (names : Names) (start : Start) (own_name peer_name : List ℕ) (object : Object) (version : ℕ) → StandsAtItsStage (begun does names start own_name peer_name object version)
   unfolding new_host created
-  stands_first names start own_name peer_name object version is_strict = λ e. absurd (false≢true e)
+  stands_first names start own_name peer_name object version = λ e. absurd (false≢true e)

@@ -1,5 +1,5 @@
 -- In a world of a commanding client and a host, what the host has given is what its stage tells.
-use Rattle.simulator_recovery.proofs.Words.Basics.{◌≡◌, ℕ, List, [], ◌∷◌, map, refl, sym, subst, ◌+◌, ◌++◌, ◌∙◌, Bool, true, false, Option, Some, None, ap, false≢true, inl, inr}
+use Rattle.simulator_recovery.proofs.Words.Basics.{◌≡◌, ℕ, List, [], ◌∷◌, map, refl, sym, subst, ◌+◌, ◌++◌, ◌∙◌, Bool, true, false, Option, Some, None, ap, false≢true}
 use Rattle.simulator_recovery.proofs.Words.Links.{settled, Each, Call, reading_of, Calls, MayCall, Restarts, Start, started, Timely, AreNames, Names, Ends, called, end_of, calls_at, Role, created, end_later, end_restarted, kept, later, lost, restarted, LinkState, is_open}
 use Rattle.simulator_recovery.proofs.Words.Controllers.{ClientRestarts, Commands, Elsewhere, Event, HostRestarts, May, MayHear, MayRun, Passes, Steps, World, as_call, called_all, happened, host_restarted, run, step_of, stepped, Behaviour, HostState, LinkCall, AreCallsFor, AreItems, AreOwn, host_step, Input, entering, host_of, new_host, items_given, item_of, Report, Stage}
 use Rattle.simulator_recovery.proofs.Words.Recovery.{StandsAtItsStage, LawsOfHost, HostHasActedOn, IsSettled, HasCounted, HostHasGiven, HostHasSaid, HostStandsByCounts, MakesAsMany, StandsByWhatItSaid, TellsAsMany, given_before, objects_told}
@@ -15,7 +15,7 @@ use Rattle.simulator_recovery.proofs.Lemmas.Ground.LinkCounts.{settled_open}
 
 pub record RunLaws {Object : Type 0} (does : Behaviour Object) : Type 0 where
   pub world : LawsOfHost does
-  pub first : (now : ℕ) (input : Input) (host : HostState Object) → AreCallsFor now host.link input (host_step does now input host).calls
+  pub first : (now : ℕ) (input : Input) (host : HostState Object) → AreCallsFor input (host_step does now input host).calls
   pub starts : (names : Names) (start : Start) → AreNames names → Timely names (started names start)
   pub time : (names : Names) (events : List links.Event) (ends : Ends) → AreNames names → Timely names ends → links.MayRun names events ends → Timely names (links.run events ends)
   pub settled_so : (names : Names) (ends : Ends) (who : Role) → Timely names ends → settled (reading_of (end_of who ends).clock) (end_of who ends).link ≡ (end_of who ends).link
@@ -39,20 +39,17 @@ module _ {Object : Type 0} (does : Behaviour Object) (laws : RunLaws does) (name
   own_may connection ends (hosts.Sends item ∷ others) own items = (items.0, own_may connection ends others own.1 items.1)
   own_may connection ends (hosts.Receives bytes ∷ others) own items = absurd own.0
 
-  calls_may : (now : ℕ) (link : LinkState) (input : Input) (connection : ℕ) (ends : Ends) (calls : List LinkCall) → AreCallsFor now link input calls → AreItems calls → MayHear names input connection ends
-      → Each (λ call. MayCall names Role.Server call ends) (map (as_call connection) calls)
-  calls_may now link Input.Tick connection ends calls own items hears = own_may connection ends calls own items
-  calls_may now link (Input.Sense sense) connection ends calls own items hears = own_may connection ends calls own items
-  calls_may now link (Input.Datagram bytes) connection ends calls (others, inl is, own) items hears = subst (λ (l : List LinkCall). Each (λ call. MayCall names Role.Server call ends) (map (as_call connection) l)) (sym is)
+  calls_may : (input : Input) (connection : ℕ) (ends : Ends) (calls : List LinkCall) → AreCallsFor input calls → AreItems calls → MayHear names input connection ends → Each (λ call. MayCall names Role.Server call ends) (map (as_call connection) calls)
+  calls_may Input.Tick connection ends calls own items hears = own_may connection ends calls own items
+  calls_may (Input.Sense sense) connection ends calls own items hears = own_may connection ends calls own items
+  calls_may (Input.Datagram bytes) connection ends calls (others, is, own) items hears = subst (λ (l : List LinkCall). Each (λ call. MayCall names Role.Server call ends) (map (as_call connection) l)) (sym is)
       (hears, own_may connection ends others own (subst AreItems is items))
-  calls_may now link (Input.Datagram bytes) connection ends calls (others, inr is, own) items hears = subst (λ (l : List LinkCall). Each (λ call. MayCall names Role.Server call ends) (map (as_call connection) l)) (sym is.0)
-      (tt, (hears, own_may connection ends others own (subst AreItems is.0 items)))
 
   pub event_may : (event : Event Object) (world : World Object) → May does names event world → links.MayRun names (link_events event world) world.ends
   unfolding link_events
   event_may (Commands call) world may = (may, tt)
   event_may (Steps input connection) world (hears, items) = laws.follow names Role.Server (map (as_call connection) (step_of does input world).calls) world.ends
-      (calls_may _ _ input connection world.ends (step_of does input world).calls (laws.first _ input _) items hears)
+      (calls_may input connection world.ends (step_of does input world).calls (laws.first _ input _) items hears)
   event_may (Passes elapsed of_client of_server) world may = (may, tt)
   event_may (Loses bytes) world may = (tt, tt)
   event_may (ClientRestarts clock first) world may = (tt, tt)
@@ -81,10 +78,10 @@ module _ {Object : Type 0} (does : Behaviour Object) (laws : RunLaws does) (name
       (subst (Timely names) (sym (event_is first world)) (laws.time names (link_events first world) world.ends are timely (event_may first world may.0)))
       (stands_on does laws.world first world (laws.settled_so names world.ends Role.Server timely) stands) may.1
 
-  pub stands_always : (start : Start) (own_name peer_name : List ℕ) (object : Object) (version : ℕ) (is_strict : Bool) (events : List (Event Object)) → MayRun does names events (begun does names start own_name peer_name object version is_strict)
-      → StandsAtItsStage (run does events (begun does names start own_name peer_name object version is_strict))
-  stands_always start own_name peer_name object version is_strict events may = run_stands events (begun does names start own_name peer_name object version is_strict) (laws.starts names start are)
-      (stands_first does laws.world names start own_name peer_name object version is_strict) may
+  pub stands_always : (start : Start) (own_name peer_name : List ℕ) (object : Object) (version : ℕ) (events : List (Event Object)) → MayRun does names events (begun does names start own_name peer_name object version)
+      → StandsAtItsStage (run does events (begun does names start own_name peer_name object version))
+  stands_always start own_name peer_name object version events may = run_stands events (begun does names start own_name peer_name object version) (laws.starts names start are)
+      (stands_first does laws.world names start own_name peer_name object version) may
 
 -- ---- in a world of a commanding client and a host, what the host has given is what its stage tells
 
@@ -152,18 +149,18 @@ module _ {Object : Type 0} (does : Behaviour Object) (many : TellsAsMany does) (
   said_on (ClientRestarts clock first) world is makes stands = record { counts = stands.counts; said = stands.said }
   said_on (HostRestarts clock first object) world is makes stands = record {
     counts = record {
-      tells = (new_stands does many objects world.ends.server.link.identity world.own_name world.peer_name first clock object world.version world.is_strict makes).tells;
+      tells = (new_stands does many objects world.ends.server.link.identity world.own_name world.peer_name first clock object world.version makes).tells;
       stands = λ e. absurd (false≢true e);
     };
     said = λ e. absurd (false≢true e);
   }
   said_on (Elsewhere count) world is makes stands = record { counts = stands.counts; said = stands.said }
 
-  pub said_first : (names : Names) (start : Start) (own_name peer_name : List ℕ) (object : Object) (version : ℕ) (is_strict : Bool) → objects_told does object ≡ objects → Stands (begun does names start own_name peer_name object version is_strict)
+  pub said_first : (names : Names) (start : Start) (own_name peer_name : List ℕ) (object : Object) (version : ℕ) → objects_told does object ≡ objects → Stands (begun does names start own_name peer_name object version)
   unfolding new_host created
-  said_first names start own_name peer_name object version is_strict tells = record {
+  said_first names start own_name peer_name object version tells = record {
     counts = record {
-      tells = (new_stands does many objects _ own_name peer_name start.server_first start.server_clock object version is_strict tells).tells;
+      tells = (new_stands does many objects _ own_name peer_name start.server_first start.server_clock object version tells).tells;
       stands = λ e. absurd (false≢true e);
     };
     said = λ e. absurd (false≢true e);
@@ -177,7 +174,7 @@ module _ {Object : Type 0} (does : Behaviour Object) (many : TellsAsMany does) (
         (subst (Timely names) (sym (event_is does runs names are first world)) (runs.time names (link_events does runs names are first world) world.ends are timely (event_may does runs names are first world may.0)))
         make.1 (said_on first world (runs.settled_so names world.ends Role.Server timely) make.0 stands) may.1
 
-    pub said_always : (start : Start) (own_name peer_name : List ℕ) (object : Object) (version : ℕ) (is_strict : Bool) (events : List (Event Object)) → objects_told does object ≡ objects → Each (MakesAsMany does objects) events
-        → MayRun does names events (begun does names start own_name peer_name object version is_strict) → Stands (run does events (begun does names start own_name peer_name object version is_strict))
-    said_always start own_name peer_name object version is_strict events tells make may = run_said events (begun does names start own_name peer_name object version is_strict) (runs.starts names start are) make
-        (said_first names start own_name peer_name object version is_strict tells) may
+    pub said_always : (start : Start) (own_name peer_name : List ℕ) (object : Object) (version : ℕ) (events : List (Event Object)) → objects_told does object ≡ objects → Each (MakesAsMany does objects) events
+        → MayRun does names events (begun does names start own_name peer_name object version) → Stands (run does events (begun does names start own_name peer_name object version))
+    said_always start own_name peer_name object version events tells make may = run_said events (begun does names start own_name peer_name object version) (runs.starts names start are) make
+        (said_first names start own_name peer_name object version tells) may

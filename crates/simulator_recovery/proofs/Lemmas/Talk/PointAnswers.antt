@@ -1,7 +1,7 @@
 -- A point's controller has given in its last connection at most two items more than it has taken there, event by event.
-use Rattle.simulator_recovery.proofs.Words.Basics.{◌≡◌, ℕ, ◌∙◌, ◌+◌, ◌≤◌, Bool, true, false, List, [], ◌∷◌, ◌++◌, length, Option, Some, None, refl, sym, ap, subst, arith, zip, false≢true, length-append}
+use Rattle.simulator_recovery.proofs.Words.Basics.{◌≡◌, ℕ, ◌∙◌, ◌+◌, ◌≤◌, Bool, true, false, List, [], ◌++◌, length, Option, Some, None, refl, sym, ap, subst, arith, zip, false≢true, length-append}
 use Rattle.simulator_recovery.proofs.Words.Links.{receiving, settled, kept, outcome, reading_of, Links, begun, run_links, Ends, LinkState, is_open}
-use Rattle.simulator_recovery.proofs.Words.Controllers.{World, called_all, entering, stepped, step_of as world_step, Position, HostSoFar, HostState, LinkCall, Receives, is_completed, keeping, new_host, call_made, items_given, items_taken, beginning, Input, Stage, SignalState, point_behaviour, PointState, Section, host_step, is_behind}
+use Rattle.simulator_recovery.proofs.Words.Controllers.{World, called_all, entering, stepped, step_of as world_step, Position, HostSoFar, HostState, LinkCall, Receives, is_completed, keeping, new_host, AreCallsFor, call_made, items_given, items_taken, beginning, Input, Stage, SignalState, point_behaviour, PointState, Section}
 use Rattle.simulator_recovery.proofs.Words.Interlockings.{Table}
 use Rattle.simulator_recovery.proofs.Words.Stations.{Site, Point as PointEntry, Event, step_of, Beginning, Outset, at_zero, new_point, point_standing, world_at, happens, AreLinksOf, names_at, starts_at_zero, ClockedControllerState, WorldState, events_of, IsWhole}
 use Rattle.simulator_recovery.proofs.Words.Recovery.{LawsBelow, LawsOfHost}
@@ -13,8 +13,6 @@ use Rattle.simulator_recovery.proofs.Lemmas.Talk.PointCounts.{Steps, Within, beg
 use Rattle.simulator_recovery.proofs.Lemmas.Talk.AlwaysSaid.{new_closed}
 use Rattle.simulator_recovery.proofs.Lemmas.Talk.AlwaysTold.{no_lists}
 use Rattle.simulator_recovery.proofs.Lemmas.Talk.Standing.{points_tell}
-use Rattle.simulator_recovery.proofs.Lemmas.Ground.FoundHosts.{IsCalm, shut_step}
-use Rattle.simulator_recovery.proofs.Lemmas.Ground.HostCalls.{calm_comes}
 
 -- a point's host, and what its end has given and taken in its last connection
 pub record Counted (host : HostState PointState) (lists : Lists) : Type 0 where
@@ -70,31 +68,17 @@ module _ (laws : LawsOfHost point_behaviour) (input : Input) (connection : ℕ) 
       ∙ ap (λ (l : LinkState). kept (entering input connection ends) ends.server.taken ++ items_taken now (world_step point_behaviour input at).calls l) link_is
       ∙ ap (λ (s : HostSoFar PointState). kept (entering input connection ends) ends.server.taken ++ items_taken now s.calls link) done_is
 
-  taken_first : (bytes : _) (others calls : List LinkCall) → calls ≡ Receives bytes.now ∷ others → coming now (Input.Datagram bytes) link ≤ length (items_taken now calls link)
-  unfolding items_taken
-  taken_first bytes others calls is =
-      let more = length-append (receiving now bytes.now link).items (items_taken now others (call_made now (Receives bytes.now) link).link)
-      in let all = ap (λ (cs : List LinkCall). length (items_taken now cs link)) is in omega (arith, more, all)
-
   -- what comes is taken
-  comes_in : IsCalm point_behaviour now c.host → coming now input link ≤ length taken_now
-  comes_in = by_input input refl
+  comes_in : coming now input link ≤ length taken_now
+  unfolding items_taken
+  comes_in = by_input input refl (laws.first now input c.host)
     where
-      by_input : (i : Input) → input ≡ i → IsCalm point_behaviour now c.host → coming now i link ≤ length taken_now
-      by_input Input.Tick e calm = omega arith
-      by_input (Input.Sense sense) e calm = omega arith
-      by_input (Input.Datagram bytes) e calm = in_calls (subst (λ (i : Input). (others : List LinkCall) × ((host_step point_behaviour now i c.host).calls ≡ Receives bytes.now ∷ others)) (sym e) (calm_comes point_behaviour now bytes c.host calm))
-        where
-          in_calls : (others : List LinkCall) × (done.calls ≡ Receives bytes.now ∷ others) → coming now (Input.Datagram bytes) link ≤ length taken_now
-          in_calls (others, is) = taken_first bytes others done.calls is
-
-  -- no more is acted on than is taken
-  few_taken : (given taken : ℕ) → Steps now given taken input c.host → length done.acted ≤ length taken_now
-  few_taken given taken s = either_way (is_behind now (beginning point_behaviour now c.host)) refl
-    where
-      either_way : (b : Bool) → is_behind now (beginning point_behaviour now c.host) ≡ b → length done.acted ≤ length taken_now
-      either_way true behind = let none = ap length (shut_step point_behaviour now input c.host behind).acted in omega (arith, none)
-      either_way false calm = let few = s.few in let comes = comes_in calm in omega (arith, few, comes)
+      by_input : (i : Input) → input ≡ i → AreCallsFor i done.calls → coming now i link ≤ length taken_now
+      by_input Input.Tick e calls = omega arith
+      by_input (Input.Sense sense) e calls = omega arith
+      by_input (Input.Datagram bytes) e (others, is, own) =
+          let more = length-append (receiving now bytes.now link).items (items_taken now others (call_made now (Receives bytes.now) link).link)
+          in let all = ap (λ (cs : List LinkCall). length (items_taken now cs link)) is in omega (arith, more, all)
 
   -- what is counted on from what was counted before
   counts_by : (given taken : List (List ℕ)) → Within (beginning point_behaviour now c.host).stage (length given) (length taken) (waits (beginning point_behaviour now c.host).object) → given ++ given_now ≡ after.given → taken ++ taken_now ≡ after.taken → Counted done.host after
@@ -112,7 +96,7 @@ module _ (laws : LawsOfHost point_behaviour) (input : Input) (connection : ℕ) 
       given_long = sym (length-append given given_now) ∙ ap length given_so
 
       no_fewer : length taken + length done.acted ≤ length after.taken
-      no_fewer = let few = few_taken (length given) (length taken) s in let both = length-append taken taken_now in let all = ap length taken_so in omega (arith, few, both, all)
+      no_fewer = let few = s.few in let comes = comes_in in let both = length-append taken taken_now in let all = ap length taken_so in omega (arith, few, comes, both, all)
 
   pub enters_none : is_open ends.server.link.phase ≡ true → entering input connection ends ≡ None
   unfolding outcome
@@ -175,7 +159,7 @@ unfolding new_host keeping
 made_waits site begins position entry = refl
 
 pub made_counts : (site : Site) (begins : Beginning) (position : Position) (entry : PointEntry) (items : Lists) → length items.given ≤ 2 + length items.taken → Counted (new_point site begins position entry) items
-made_counts site begins position entry items few = record { idle = λ e. made_waits site begins position entry; inside = λ e. absurd (false≢true (sym (new_closed point_behaviour _ _ _ _ _ _ _ _) ∙ e)); ever = few }
+made_counts site begins position entry items few = record { idle = λ e. made_waits site begins position entry; inside = λ e. absurd (false≢true (sym (new_closed point_behaviour _ _ _ _ _ _ _) ∙ e)); ever = few }
 
 -- of a signal and a detector nothing is said here
 abbrev pub Nothing : {Object : Type 0} → ℕ → HostState Object → Lists → Type 0

@@ -1,15 +1,14 @@
 -- A point's host gives at most two items more than it has acted on: the whole initialisation for the check and the request, and one
 -- report for each move.
 use Rattle.simulator_recovery.proofs.Words.Basics.{◌≡◌, ℕ, zero, suc, ◌∙◌, ◌+◌, ◌≤◌, Bool, true, false, not, ◌&&◌, ◌==◌, List, [], ◌∷◌, ◌++◌, length, Option, Some, None, Result, Ok, Err, if◌then◌else◌, refl, sym, ap, subst, arith, is_ok, nat_le, false≢true, length-append, none-some}
-use Rattle.simulator_recovery.proofs.Words.Links.{answer_to_send, receiving, settled, LinkState, is_open, Reason, SendFault}
-use Rattle.simulator_recovery.proofs.Words.Controllers.{reading, SciFault, NoMatch, Match, InitialisationCompleted, InitialisationRequest, StartInitialisation, VersionAnswer, VersionCheck, Message, Position, Telegram, HostSoFar, HostState, at_stage, fallen, is_completed, is_outside, keeping, risen, said, silent, then_do, calls_made, items_given, meaning, acting, acting_all, answering, beating, beginning, commanding, ending, following, given as given_in, goes_on, hearing, host_step, initial_status, initialising, is_admitted, most_objects, most_owed, paid, paying, paying_first, posting, posting_all, received, telling_status, violating, item_of, Input, Report, Sense, Stage, point_behaviour, PointState, answered, drive_end, final_report, is_at, limited, reached, sensing, taking, ticking, unanswered, Progress, after_refusal, closes_when_refused, closing, going_on, is_behind, watched}
+use Rattle.simulator_recovery.proofs.Words.Links.{answer_to_send, receiving, settled, LinkState, is_open}
+use Rattle.simulator_recovery.proofs.Words.Controllers.{reading, SciFault, NoMatch, Match, InitialisationCompleted, InitialisationRequest, StartInitialisation, VersionAnswer, VersionCheck, Message, Position, Telegram, HostSoFar, HostState, at_stage, fallen, is_completed, is_outside, keeping, risen, said, silent, then_do, calls_made, items_given, meaning, acting, acting_all, answering, beating, beginning, commanding, ending, following, given as given_in, goes_on, hearing, host_step, initial_status, initialising, is_admitted, most_objects, most_owed, paid, paying, paying_first, posting, posting_all, received, telling_status, violating, item_of, Input, Report, Sense, Stage, point_behaviour, PointState, answered, drive_end, final_report, is_at, limited, reached, sensing, taking, ticking, unanswered, Progress}
 use Rattle.simulator_spec.specs.object_host.Meaning.{commanding as by_stage}
 use Rattle.simulator_spec.specs.point_ctl.Drive as drive
 use Rattle.simulator_spec.specs.point_ctl.Drive.{losing}
 use Rattle.simulator_recovery.proofs.Lemmas.Talk.HostLinks.{risen_same}
 use Rattle.simulator_recovery.proofs.Lemmas.Talk.HostSaid.{items_both, made_both}
 use Rattle.simulator_recovery.proofs.Lemmas.Talk.Standing.{point_tells, points_tell}
-use Rattle.simulator_recovery.proofs.Lemmas.Ground.FoundHosts.{ClosesNow, by_loss, shut, shut_rests, shut_step, step_calm, found_shut, IsShutStep}
 
 -- ---- what waits
 
@@ -134,14 +133,6 @@ module _ (now : ℕ) where
     made = same;
     few = omega arith;
     within = subst (λ (n : ℕ). Within after.stage n (taken + 0) (waits after.object)) (none_more given) (subst (λ (n : ℕ). Within after.stage given n (waits after.object)) (none_more taken) has);
-  }
-
-  keeps_shut : (why : Reason) (given taken most : ℕ) (host : HostState PointState) → Within host.stage given taken (waits host.object) → Keeps given taken most host (closing now why host)
-  unfolding items_given calls_made
-  keeps_shut why given taken most host has = record {
-    made = refl;
-    few = omega arith;
-    within = subst (λ (n : ℕ). Within host.stage n (taken + 0) (waits host.object)) (none_more given) (subst (λ (n : ℕ). Within host.stage given n (waits host.object)) (none_more taken) has);
   }
 
   keeps_closed : (given taken most : ℕ) (host : HostState PointState) → Within host.stage given taken (waits host.object) → Keeps given taken most host (violating now host)
@@ -364,15 +355,6 @@ module _ (now : ℕ) where
         (subst (λ (n : ℕ). Within host.stage n (taken + 0) (waits host.object)) (none_more given) (subst (λ (n : ℕ). Within host.stage given n (waits host.object)) (none_more taken) has));
   }
 
-  -- a report that is refused may close the link
-  refused_keeps : (given taken : ℕ) (answer : Result Unit SendFault) (host : HostState PointState) → Within host.stage given taken (waits host.object) → Keeps given taken 0 host (after_refusal point_behaviour now answer host)
-  unfolding after_refusal
-  refused_keeps given taken answer host has = choose (closes_when_refused point_behaviour answer host)
-    where
-      choose : (b : Bool) → Keeps given taken 0 host (if b then closing now Reason.Window host else silent host)
-      choose true = keeps_shut Reason.Window given taken 0 host has
-      choose false = keeps_none given taken 0 host host refl has
-
   pays_first : (given taken : ℕ) (report : Option Report) (host : HostState PointState) → point_behaviour.owed host.object ≡ report → Within host.stage given taken (waits host.object) → Keeps given taken 0 host (paying_first point_behaviour now report host)
   pays_first given taken None host owes has = keeps_none given taken 0 host host refl has
   pays_first given taken (Some report) host owes has = choose (is_completed host.stage) refl (is_ok (answer_to_send now host.link)) refl
@@ -380,15 +362,10 @@ module _ (now : ℕ) where
       sent : HostSoFar PointState
       sent = posting now report host
 
-      refused : HostState PointState → HostSoFar PointState
-      refused = after_refusal point_behaviour now (answer_to_send now host.link)
-
       choose : (b : Bool) → is_completed host.stage ≡ b → (c : Bool) → is_ok (answer_to_send now host.link) ≡ c
-          → Keeps given taken 0 host (if not b then silent (paid point_behaviour host) else (if c then record sent { host = paid point_behaviour sent.host } else then_do sent refused))
+          → Keeps given taken 0 host (if not b then silent (paid point_behaviour host) else (if c then record sent { host = paid point_behaviour sent.host } else sent))
       choose false e c f = let idle = within_idle host.stage given taken (waits host.object) e has in let one = owed_waits host.object.progress host.object report owes in absurd (omega (arith, idle, one))
-      choose true e true f = reports given taken report host owes e has true f
-      choose true e false f = let first = reports given taken report host owes e has false f in
-          keeps_then given taken 0 0 0 host sent refused (omega arith) first (refused_keeps (given + gave host sent) (taken + length sent.acted) (answer_to_send now host.link) sent.host first.within)
+      choose true e c f = reports given taken report host owes e has c f
 
   pays : (given taken most : ℕ) (host : HostState PointState) → Within host.stage given taken (waits host.object) → Keeps given taken 0 host (paying point_behaviour now most host)
   unfolding paying
@@ -435,7 +412,7 @@ module _ (now : ℕ) where
       lost = record at { stage = Stage.Outside; object = losing host.object }
 
       ticked : HostState PointState → HostState PointState
-      ticked h = record (watched now h) { object = ticking now h.object }
+      ticked h = record h { object = ticking now h.object }
 
       outside_is : (s : Stage) → is_outside s ≡ true → (s ≡ Stage.Outside) × (is_completed s ≡ false)
       outside_is Stage.Outside e = (refl, refl)
@@ -453,46 +430,47 @@ module _ (now : ℕ) where
       by false g true h = record { link = refl; inside = λ opened. (refl, limited_same now host.object.progress); outside = λ closed idle. absurd (false≢true (sym closed ∙ h)) }
       by false g false h = record { link = refl; inside = λ opened. absurd (false≢true (sym h ∙ opened)); outside = λ closed idle. (refl, refl) }
 
-  -- what a step leaves, or a part of one on this link
-  pub record PartSteps (given taken : ℕ) (input : Input) (link : LinkState) (part : HostSoFar PointState) : Type 0 where
-    pub idle : is_completed part.host.stage ≡ false → waits part.host.object ≡ 0
-    pub inside : is_open part.host.link.phase ≡ true → Within part.host.stage (given + length (items_given now part.calls link)) (taken + length part.acted) (waits part.host.object)
-    pub few : length part.acted ≤ coming input link
-    pub ever : given + length (items_given now part.calls link) ≤ 2 + (taken + length part.acted)
-
-  abbrev pub Steps : ℕ → ℕ → Input → HostState PointState → Type 0
-  Steps given taken input host = PartSteps given taken input (settled now host.link) (host_step point_behaviour now input host)
+  -- what a step leaves
+  pub record Steps (given taken : ℕ) (input : Input) (host : HostState PointState) : Type 0 where
+    pub idle : is_completed (host_step point_behaviour now input host).host.stage ≡ false → waits (host_step point_behaviour now input host).host.object ≡ 0
+    pub inside : is_open (host_step point_behaviour now input host).host.link.phase ≡ true → Within (host_step point_behaviour now input host).host.stage
+        (given + length (items_given now (host_step point_behaviour now input host).calls (settled now host.link))) (taken + length (host_step point_behaviour now input host).acted) (waits (host_step point_behaviour now input host).host.object)
+    pub few : length (host_step point_behaviour now input host).acted ≤ coming input (settled now host.link)
+    pub ever : given + length (items_given now (host_step point_behaviour now input host).calls (settled now host.link)) ≤ 2 + (taken + length (host_step point_behaviour now input host).acted)
 
   -- how it ends
   record EndsSo (given taken : ℕ) (host after : HostState PointState) : Type 0 where
     idle : is_completed after.stage ≡ false → waits after.object ≡ 0
     inside : is_open after.link.phase ≡ true → Within after.stage given taken (waits after.object)
 
-  ends_so : (given taken : ℕ) (host : HostState PointState) → Within host.stage given taken (waits host.object) → EndsSo given taken host (ending point_behaviour now host)
+  ends_so : (given taken : ℕ) (host : HostState PointState) → Within host.stage given taken (waits host.object) → EndsSo given taken host (ending point_behaviour host)
   unfolding fallen keeping
   ends_so given taken host has = choose (is_outside host.stage) (is_open host.link.phase) refl
     where
       lost : HostState PointState
       lost = record host { stage = Stage.Outside; object = losing host.object }
 
-      stays : EndsSo given taken host (keeping point_behaviour (watched now host))
+      stays : EndsSo given taken host (keeping point_behaviour host)
       stays = record { idle = λ e. within_idle host.stage given taken (waits host.object) e has; inside = λ e. has }
 
-      choose : (b c : Bool) → is_open host.link.phase ≡ c → EndsSo given taken host (keeping point_behaviour (watched now (if not b && not c then lost else host)))
+      choose : (b c : Bool) → is_open host.link.phase ≡ c → EndsSo given taken host (keeping point_behaviour (if not b && not c then lost else host))
       choose true c e = stays
       choose false true e = stays
       choose false false e = record { idle = λ f. refl; inside = λ f. absurd (false≢true (sym e ∙ f)) }
 
-  -- how it goes on, from the host that its input finds
-  goes : (given taken : ℕ) (input : Input) (first : HostState PointState) → Within first.stage given taken (waits first.object) → PartSteps given taken input first.link (going_on point_behaviour now input first)
-  unfolding going_on
-  goes given taken input first has = record {
+  pub steps : (given taken : ℕ) (input : Input) (host : HostState PointState) → Within (beginning point_behaviour now host).stage given taken (waits (beginning point_behaviour now host).object) → Steps given taken input host
+  unfolding host_step
+  steps given taken input host has = record {
     idle = ended.idle;
-    inside = ended.inside;
-    few = kept.few;
-    ever = let all = within_ever done.host.stage (given + gave first done) (taken + length done.acted) (waits done.host.object) kept.within in omega (arith, all);
+    inside = λ e. subst (λ (l : LinkState). Within (ending point_behaviour done.host).stage (given + length (items_given now done.calls l)) (taken + length done.acted) (waits (ending point_behaviour done.host).object)) (begins_so host).link (ended.inside e);
+    few = subst (λ (l : LinkState). length done.acted ≤ coming input l) (begins_so host).link kept.few;
+    ever = subst (λ (l : LinkState). given + length (items_given now done.calls l) ≤ 2 + (taken + length done.acted)) (begins_so host).link
+        (let all = within_ever done.host.stage (given + gave first done) (taken + length done.acted) (waits done.host.object) kept.within in omega (arith, all));
   }
     where
+      first : HostState PointState
+      first = beginning point_behaviour now host
+
       heard : HostSoFar PointState
       heard = given_in point_behaviour now input first
 
@@ -511,43 +489,5 @@ module _ (now : ℕ) where
       kept : Keeps given taken (coming input first.link) first done
       kept = keeps_then given taken (coming input first.link) 0 (coming input first.link) first told_so (beating now input) (omega arith) told_keeps (beats (given + gave first told_so) (taken + length told_so.acted) input told_so.host told_keeps.within)
 
-      ended : EndsSo (given + gave first done) (taken + length done.acted) done.host (ending point_behaviour now done.host)
+      ended : EndsSo (given + gave first done) (taken + length done.acted) done.host (ending point_behaviour done.host)
       ended = ends_so (given + gave first done) (taken + length done.acted) done.host kept.within
-
-  -- a host that closes its link first is outside behind the step, and no move waits
-  shut_steps : (given taken : ℕ) (input : Input) (host : HostState PointState) → ClosesNow point_behaviour now host → Within (beginning point_behaviour now host).stage given taken (waits (beginning point_behaviour now host).object) → Steps given taken input host
-  unfolding host_step
-  shut_steps given taken input host behind has = record {
-    idle = subst (λ (f : HostSoFar PointState). is_completed (going_on point_behaviour now input f.host).host.stage ≡ false → waits (going_on point_behaviour now input f.host).host.object ≡ 0)
-        (sym (found_shut point_behaviour now host behind)) (goes 0 0 input after.host (subst (λ (s : Stage). Within s 0 0 (waits after.host.object)) (sym (shut_rests point_behaviour now host behind).stage_is) (refl, none_waits))).idle;
-    inside = λ opened. absurd (false≢true (sym step.closed ∙ opened));
-    few = let none = ap length step.acted in omega (arith, none);
-    ever = let none = ap length step.gives in let all = within_ever begun.stage given taken (waits begun.object) has in omega (arith, none, all);
-  }
-    where
-      begun : HostState PointState
-      begun = beginning point_behaviour now host
-
-      after : HostSoFar PointState
-      after = shut point_behaviour now begun
-
-      step : IsShutStep point_behaviour now host (host_step point_behaviour now input host)
-      step = shut_step point_behaviour now input host behind
-
-      early : (s : Stage) → is_outside s ≡ true → is_completed s ≡ false
-      early Stage.Outside e = refl
-      early Stage.AwaitsCheck e = refl
-      early Stage.AwaitsRequest e = refl
-      early Stage.Completed e = absurd (false≢true e)
-      early Stage.Refused e = refl
-
-      none_waits : waits after.host.object ≡ 0
-      none_waits = by_loss point_behaviour now (λ (point : PointState). waits point ≡ 0) begun (λ point. refl) (λ outside. within_idle begun.stage given taken (waits begun.object) (early begun.stage outside) has)
-
-  pub steps : (given taken : ℕ) (input : Input) (host : HostState PointState) → Within (beginning point_behaviour now host).stage given taken (waits (beginning point_behaviour now host).object) → Steps given taken input host
-  steps given taken input host has = either_way (is_behind now (beginning point_behaviour now host)) refl
-    where
-      either_way : (b : Bool) → is_behind now (beginning point_behaviour now host) ≡ b → Steps given taken input host
-      either_way true behind = shut_steps given taken input host behind has
-      either_way false calm = subst (PartSteps given taken input (settled now host.link)) (sym (step_calm point_behaviour now input host calm))
-          (subst (λ (l : LinkState). PartSteps given taken input l (going_on point_behaviour now input (beginning point_behaviour now host))) (begins_so host).link (goes given taken input (beginning point_behaviour now host) has))

@@ -2,16 +2,15 @@
 use Rattle.simulator_recovery.proofs.Words.Basics.{◌≡◌, ℕ, zero, suc, ◌+◌, ◌≤◌, Bool, true, false, List, [], ◌∷◌, length, Option, Some, None, slice_get, if◌then◌else◌, nat_le, ◌<◌, refl, sym, ap, ◌∙◌, arith, leb-true, leb-false, option_map, none-some, slice_get_within, map, subst, slice_index_or, same_Some}
 use Rattle.simulator_recovery.proofs.Words.Controllers.{Keeps, Loses, ObjectCall, Pays, Senses, Takes, Ticks, object_after, initial_status, report_then, Sense, SignalState, signal_behaviour, point_behaviour, PointState, detection_behaviour, changed, settled, status_of, with_section, Section, Occupancy, HostState}
 use Rattle.simulator_recovery.proofs.Words.Recovery.{TellsAsMany, objects_told, AllStandByCounts, ClientStandsAt, EachClient, HostStandsByCounts, IsToldAt}
-use Rattle.simulator_recovery.proofs.Words.Interlockings.{ClientState, PeerState, new_client, clocked, commanding, hearing, ticking, KnownDetectorState, KnownPointState, KnownSignalState, Detector, Node, Point, Signal, Table, closing_behind}
+use Rattle.simulator_recovery.proofs.Words.Interlockings.{ClientState, PeerState, new_client, clocked, commanding, hearing, ticking, KnownDetectorState, KnownPointState, KnownSignalState, Detector, Node, Point, Signal, Table}
 use Rattle.simulator_recovery.proofs.Words.Stations.{DetectorEntry, Site, IsDetectorOf, IsStation, Event, Beginning, Outset, named_section, new_detector, new_detector_of, new_ixl, new_known_point_of, new_known_signal_of, world_at, happens, WorldState, IsReached}
 use Rattle.simulator_spec.specs.tds_ctl.Sections.{paying, sensing}
 use Rattle.simulator_spec.specs.tds_ctl.Sections as sections
 use Rattle.simulator_recovery.proofs.Lemmas.Ground.EndCalls.{at_place, map_length}
-use Rattle.simulator_recovery.proofs.Lemmas.Talk.ClientLinks.{ClockedStands, clocked_peer, clocked_stands, commanding_peer, commanding_stands, hearing_peer, hearing_stands, new_client_stands, ticking_peer, ticking_stands, closing_stands}
+use Rattle.simulator_recovery.proofs.Lemmas.Talk.ClientLinks.{ClockedStands, clocked_peer, clocked_stands, commanding_peer, commanding_stands, hearing_peer, hearing_stands, new_client_stands, ticking_peer, ticking_stands}
 use Rattle.simulator_recovery.proofs.Lemmas.Talk.HostLinks.{new_stands, step_stands}
 use Rattle.simulator_recovery.proofs.Lemmas.Ground.IxlClients.{ClientsKeep, mapped_at}
 use Rattle.simulator_recovery.proofs.Lemmas.Ground.StationKeeps.{Kept, StationKeeps, all_at, always_kept, kept_first, kept_on}
-use Rattle.simulator_recovery.proofs.Lemmas.Ground.FoundClients.{closing_peer}
 
 -- ---- of how many objects the controllers of a station tell
 
@@ -111,7 +110,6 @@ module _ (site : Site) where
   clients_keep now = record {
     clock = λ node client is. record { stands = clocked_stands now client is.stands; objects = with_peer node client.peer (clocked now client).peer (clocked_peer now client) is.objects };
     weaker = λ node client is. record { stands = is.stands.stands; objects = is.objects };
-    closes = λ node part is. record { stands = closing_stands now part is.stands; objects = with_peer node part.client.peer (closing_behind now part).client.peer (closing_peer now part) is.objects };
     hears = λ node bytes part is. record { stands = hearing_stands now bytes part is.stands; objects = with_peer node part.client.peer (hearing now bytes part).client.peer (hearing_peer now bytes part) is.objects };
     commands = λ node command part is. record { stands = commanding_stands now command part is.stands; objects = with_peer node part.client.peer (commanding now command part).client.peer (commanding_peer now command part) is.objects };
     ticks = λ node part is. record { stands = ticking_stands now part is.stands; objects = with_peer node part.client.peer (ticking now part).client.peer (ticking_peer now part) is.objects };
@@ -147,7 +145,7 @@ module _ (site : Site) (table : Table) (station : IsStation site) where
   OfDetector place host = (entry : DetectorEntry) → slice_get site.detectors place ≡ Some entry → HostStandsByCounts detection_behaviour (length entry.sections) host
 
   new_detector_is : (begins : Beginning) (occupied : List Occupancy) (entry : DetectorEntry) (place : ℕ) → slice_get site.detectors place ≡ Some entry → OfDetector place (new_detector site begins occupied entry)
-  new_detector_is begins occupied entry place there other e = new_stands detection_behaviour detectors_tell (length other.sections) _ _ _ _ _ _ _ _
+  new_detector_is begins occupied entry place there other e = new_stands detection_behaviour detectors_tell (length other.sections) _ _ _ _ _ _ _
       (sections_told _ (subst (λ (n : ℕ). n ≤ 16) (sym many) (all_at (IsDetectorOf site) site.detectors station.detectors place entry there).few) ∙ many ∙ ap (λ (d : DetectorEntry). length d.sections) (same_Some entry other (sym there ∙ e)))
     where
       many : length (map (λ section. sections.made (named_section site occupied section)) entry.sections) ≡ length entry.sections
@@ -158,9 +156,9 @@ module _ (site : Site) (table : Table) (station : IsStation site) where
     clients_keep = clients_keep site;
     new_clients = new_clients site;
     signal_steps = λ now input place host is. step_stands signal_behaviour signals_tell 1 now input host is;
-    new_signal_is = λ begins entry place e. new_stands signal_behaviour signals_tell 1 _ _ _ _ _ _ _ _ (signal_tells _);
+    new_signal_is = λ begins entry place e. new_stands signal_behaviour signals_tell 1 _ _ _ _ _ _ _ (signal_tells _);
     point_steps = λ now input place host is. step_stands point_behaviour points_tell 1 now input host is;
-    new_point_is = λ begins position entry place e. new_stands point_behaviour points_tell 1 _ _ _ _ _ _ _ _ (point_tells _);
+    new_point_is = λ begins position entry place e. new_stands point_behaviour points_tell 1 _ _ _ _ _ _ _ (point_tells _);
     detector_steps = λ now input place host is entry e. step_stands detection_behaviour detectors_tell (length entry.sections) now input host (is entry e);
     new_detector_is = new_detector_is;
   }

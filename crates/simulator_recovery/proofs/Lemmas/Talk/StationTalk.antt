@@ -2,7 +2,7 @@
 use Rattle.simulator_recovery.proofs.Words.Basics.{◌≡◌, ◌≢◌, ℕ, zero, suc, ◌∙◌, ◌<◌, ◌+◌, ◌==◌, Bool, true, false, not, ◌&&◌, List, [], ◌∷◌, ◌++◌, length, map, Option, Some, None, slice_get, Result, Ok, Err, ◌⊎◌, if◌then◌else◌, refl, sym, ap, subst, arith, ◌||◌, nat_lt, list_any, false≢true, nat_tests, none-some, same_Some, slice_get_within}
 use Rattle.simulator_recovery.proofs.Words.Links.{hearing_bytes, receiving, deadline, open_state, settled, state_at, AreTimely, Call, EndState, end_restarted, reading_of, run, AreLinks, CallsOn, Links, MayRunLinks, RestartsOn, happened_to, run_links, seen, at_link, restarts_of, Step, Receipt, by_state, hearing as link_hearing, refusing, resting, Ends, called, restarted, LinkState, is_client, is_open, is_up, calls_at, Role, State, Verdict, reading, Body, ConnectionRequest, ConnectionResponse, Data, DisconnectionRequest, Heartbeat, RetransmissionRequest, RetransmissionResponse, RetransmittedData, PduFault, Pdu}
 use Rattle.simulator_recovery.proofs.Words.Controllers.{as_call as host_call, Aspect, Behaviour, Input as HostInput}
-use Rattle.simulator_recovery.proofs.Words.Interlockings.{IsTableOf, ClientState, PeerState, is_outside, LinkCall, as_call, begun, clocked, commanding, fallen, hearing, ticking, Stage, IxlState, KnownDetectorState, KnownPointState, KnownSignalState, Detector, Node, Point, Signal, StepSoFar, begun_with, empty_outbox, Row, Table, closing_behind, watched}
+use Rattle.simulator_recovery.proofs.Words.Interlockings.{IsTableOf, ClientState, PeerState, is_outside, LinkCall, as_call, begun, clocked, commanding, fallen, hearing, ticking, Stage, IxlState, KnownDetectorState, KnownPointState, KnownSignalState, Detector, Node, Point, Signal, StepSoFar, begun_with, empty_outbox, Row, Table}
 use Rattle.simulator_recovery.proofs.Words.Stations.{is_slow, RouteEntry, Site, step_of, interlocking_step, AreLinksOf, client_links, names_at, detector_link, key_of, links, partners, point_link, ClockedControllerState, WorldState, AreOfNodes, IsNodeOf, link_at, node_call, host_events, interlocking_events, MayComeWith, IsWhole}
 use Rattle.simulator_recovery.proofs.Words.Machine.{ClientIsAfter, given_after, taken_after}
 use Rattle.simulator_recovery.proofs.Words.Recovery.{ClientHasSaid, ClientTalks, ClientHasActedOn, ClientStandsAt, ClientStandsByCounts, EachClient, IsSpoken, SpeaksAt, LawsBelow}
@@ -11,13 +11,12 @@ use Rattle.simulator_spec.specs.ixl_spec.Step as ixl
 use Rattle.simulator_recovery.proofs.Lemmas.Ground.ClientItem.{at_front, partners_length}
 use Rattle.simulator_recovery.proofs.Lemmas.Ground.AtLink.{mapped, of_second, of_third}
 use Rattle.simulator_recovery.proofs.Lemmas.Ground.ClientBehind.{aspect_leads, available_ready, begins_here, move_leads, so_far_behind}
-use Rattle.simulator_recovery.proofs.Lemmas.Talk.ClientLinks.{ClockedStands, clocked_peer, clocked_stands, not_false, outside_is, up_open, closing_stands}
-use Rattle.simulator_recovery.proofs.Lemmas.Talk.ClientTalk.{OfNode, SoFar, commanding_so_far, hearing_so_far, ticking_so_far, closing_so_far}
+use Rattle.simulator_recovery.proofs.Lemmas.Talk.ClientLinks.{ClockedStands, clocked_peer, clocked_stands, not_false, outside_is, up_open}
+use Rattle.simulator_recovery.proofs.Lemmas.Talk.ClientTalk.{OfNode, SoFar, commanding_so_far, hearing_so_far, ticking_so_far}
 use Rattle.simulator_recovery.proofs.Lemmas.Ground.IxlSoFar.{All, SoFarKeeps, at_node, is_node, step_held}
 use Rattle.simulator_recovery.proofs.Lemmas.Ground.LinkCounts.{AfterReceipt, comes_in, entered_closed, receipt_counts, settled_again, settled_open, stays_in}
 use Rattle.simulator_recovery.proofs.Lemmas.Ground.EndCalls.{at_place, map_length}
 use Rattle.simulator_recovery.proofs.Lemmas.Ground.DueTests.{same_number}
-use Rattle.simulator_recovery.proofs.Lemmas.Ground.FoundClients.{closing_identity}
 
 -- ---- a client that is outside enters nothing by what comes
 
@@ -231,7 +230,7 @@ clocked_talks site node now client given taken talks = choose (is_up (settled no
     was : is_open (settled now client.link).phase ≡ true → (is_open client.link.phase ≡ true) × (is_up (settled now client.link).phase ≡ is_up client.link.phase)
     was e = let so = settled_open now client.link e in (so.1, ap (λ (l : LinkState). is_up l.phase) so.0)
 
-    choose : (b : Bool) → is_up (settled now client.link).phase ≡ b → ClientTalks site node (watched now (if b then at else record at { stage = Stage.Outside })) given taken
+    choose : (b : Bool) → is_up (settled now client.link).phase ≡ b → ClientTalks site node (if b then at else record at { stage = Stage.Outside }) given taken
     choose true e = record {
       outside = talks.outside ∙ ap not (sym (was (up_open _ e)).1);
       acted = λ opened. talks.acted (was opened).0;
@@ -310,6 +309,7 @@ module _ (laws : LawsBelow) (site : Site) (table : Table) (is_table : IsTableOf 
     so : SoFar site node peer of now connection (link_of node) (gave network (link_at site node)) (took network (link_at site node)) client calls
 
   record Settled (node : Node) (client : ClientState) (calls : List LinkCall) : Type 0 where
+    none : calls ≡ []
     counts : ClockedStands now client
     asks : is_client client.link.identity.role ≡ true
     holds : Holds node client calls
@@ -319,6 +319,7 @@ module _ (laws : LawsBelow) (site : Site) (table : Table) (is_table : IsTableOf 
 
   clock : (node : Node) (client : ClientState) → Before node client → Settled node (clocked now client) []
   clock node client b = record {
+    none = refl;
     counts = clocked_stands now client b.counts;
     asks = ap (λ (l : LinkState). is_client l.identity.role) (clocked_link now client ∙ b.link_is) ∙ b.asks;
     holds = record {
@@ -350,12 +351,6 @@ module _ (laws : LawsBelow) (site : Site) (table : Table) (is_table : IsTableOf 
   keep = record {
     clock = clock;
     weaker = λ node client calls s. s.holds;
-    closes = λ node client outbox calls s. record {
-      counts = closing_stands now (begun client outbox) s.counts;
-      asks = ap (λ identity. is_client identity.role) (closing_identity now (begun client outbox)) ∙ s.asks;
-      holds = goes_on node client (closing_behind now (begun client outbox)).client calls (closing_behind now (begun client outbox)).calls s.holds
-          (closing_so_far site node s.holds.peer s.holds.of now connection client.link _ _ (begun client outbox));
-    };
     hears = λ node bytes client outbox calls comes s. goes_on node client (hearing now bytes (begun client outbox)).client calls (hearing now bytes (begun client outbox)).calls s.holds
         (hearing_so_far site node s.holds.peer s.holds.of now connection client.link _ _ bytes (begun client outbox) (client_comes now bytes client s.counts s.asks));
     aspects = λ place aspect client outbox calls spoken ready h. goes_on (Signal place) client (commanding now (Command.Indicate aspect) (begun client outbox)).client calls (commanding now (Command.Indicate aspect) (begun client outbox)).calls h
@@ -434,7 +429,7 @@ module _ (laws : LawsBelow) (site : Site) (table : Table) (is_table : IsTableOf 
   abbrev after : Links
   after = run_links (interlocking_events site table input connection world.interlocking) network
 
-  held : All Holds done
+  held : All now Spoken Any Before Settled Holds keep Holds done
   held = step_held now Spoken Any Before Settled Holds keep table (λ signal. refl) (row_spoken site table is_table) (key_of site) input (begun_with known empty_outbox) (λ bytes e. tt) refl before
 
   called_nodes : AreOfNodes site done.calls

@@ -2,12 +2,12 @@
 use Rattle.simulator_recovery.proofs.Words.Basics.{◌≡◌, ℕ, ◌<◌, ◌≤◌, true, false, List, [], ◌∷◌, ◌++◌, length, Option, Some, None, slice_get, slice_set, refl, sym, subst, arith}
 use Rattle.simulator_recovery.proofs.Words.Links.{Each, reading_of, OutboxState, is_open}
 use Rattle.simulator_recovery.proofs.Words.Controllers.{Aspect, Occupancy}
-use Rattle.simulator_recovery.proofs.Words.Interlockings.{ClientState, LinkCall, begun, clocked, hearing, ticking, KnownDetectorState, Detector, Node, Point, Signal, begun_with, empty_outbox, Table, closing_behind}
+use Rattle.simulator_recovery.proofs.Words.Interlockings.{ClientState, LinkCall, begun, clocked, hearing, ticking, KnownDetectorState, Detector, Node, Point, Signal, begun_with, empty_outbox, Table}
 use Rattle.simulator_recovery.proofs.Words.Stations.{Site, Once, IsStation, Event, Beginning, at_zero, new_detector_of, new_ixl, world_at, delivered_to, detector_anew, detector_stepped, happens, interlocking_stepped, made_anew, passed, point_anew, point_stepped, sensed_by, signal_anew, signal_stepped, ticked_at, interlocking_step, connection_of, copy_of, detector_link, key_of, node_at, refusal, after_all, ClockedInterlockingState, WorldState, events_of, IsReached}
 use Rattle.simulator_recovery.proofs.Words.Recovery.{EachClient, LawsBelow, FillsNoWindowOn}
 use Rattle.simulator_spec.specs.ixl_spec.Step as ixl
 use Rattle.simulator_spec.specs.Nodes as nodes
-use Rattle.simulator_recovery.proofs.Lemmas.Windows.FewItems.{FewSoFar, GivesFew, clocked_few, few_wait, hearing_few, new_client_few, ticking_few, closing_few}
+use Rattle.simulator_recovery.proofs.Lemmas.Windows.FewItems.{FewSoFar, GivesFew, clocked_few, few_wait, hearing_few, new_client_few, ticking_few}
 use Rattle.simulator_recovery.proofs.Lemmas.Ground.IxlClients.{mapped_at}
 use Rattle.simulator_recovery.proofs.Lemmas.Ground.IxlSoFar.{All, SoFarKeeps, step_held}
 use Rattle.simulator_recovery.proofs.Lemmas.Ground.EndCalls.{at_place}
@@ -47,17 +47,10 @@ module _ (now : ℕ) where
   ticks (Point place) client outbox calls is = tt
   ticks (Detector place) client outbox calls is = ticking_few false now client outbox calls is
 
-  closes : (node : Node) (client : ClientState) (outbox : OutboxState) (calls : List LinkCall) → SoFarAt node client calls
-      → SoFarAt node (closing_behind now (begun client outbox)).client (calls ++ (closing_behind now (begun client outbox)).calls)
-  closes (Signal place) client outbox calls is = tt
-  closes (Point place) client outbox calls is = tt
-  closes (Detector place) client outbox calls is = closing_few false now client outbox calls is
-
   keep : SoFarKeeps now AnyAspect AnyBytes FewAt SoFarAt SoFarAt
   keep = record {
     clock = settles;
     weaker = λ node client calls is. is;
-    closes = closes;
     hears = λ node bytes client outbox calls comes is. hears node bytes client outbox calls is;
     aspects = λ place aspect client outbox calls gives ready is. tt;
     moves = λ place side client outbox calls available is. tt;
@@ -69,7 +62,7 @@ module _ (site : Site) (table : Table) (input : ixl.Input) (station : ClockedInt
   now_is : ℕ
   now_is = reading_of station.clock
 
-  held : All SoFarAt (interlocking_step site table input station)
+  held : All (reading_of station.clock) AnyAspect AnyBytes FewAt SoFarAt SoFarAt (keep (reading_of station.clock)) SoFarAt (interlocking_step site table input station)
   held = step_held (reading_of station.clock) AnyAspect AnyBytes FewAt SoFarAt SoFarAt (keep (reading_of station.clock)) table (λ signal. tt) (λ number row e. tt) (key_of site) input (begun_with station.ixl empty_outbox) (λ bytes e. tt) refl few
 
   step_few : EachClient FewAt (interlocking_step site table input station).ixl

@@ -3,14 +3,13 @@
 use Rattle.simulator_recovery.proofs.Words.Basics.{◌≡◌, ℕ, ◌∙◌, ◌+◌, ◌≤◌, ◌<◌, ◌⊎◌, inl, inr, Bool, true, false, ◌&&◌, nat_lt, List, [], ◌∷◌, ◌++◌, length, if◌then◌else◌, refl, sym, ap, subst, arith, is_ok, false≢true, nat_tests}
 use Rattle.simulator_recovery.proofs.Words.Links.{acceptance, answer_to_send, created, opening, receiving, sending_item, ticking as link_ticking, settled, Each, OutboxState, window_size, Step, entered, LinkState, is_open, is_up, Identity, Phase, Reason}
 use Rattle.simulator_recovery.proofs.Words.Controllers.{writing, VersionCheck, Message}
-use Rattle.simulator_recovery.proofs.Words.Interlockings.{ClientState, PeerState, is_outside, is_ready, new_client, ClientSoFar, Closes, LinkCall, Opens, Receives, Sends, Ticks, begun, calling, acted_on, acting, acting_all, at_stage, clocked, commanding, fallen, hearing, is_refused_by_window, message_of, posting, rising, saying, stage_after_command, telegram_to, ticking, Stage, closing_behind, watched}
+use Rattle.simulator_recovery.proofs.Words.Interlockings.{ClientState, PeerState, is_outside, is_ready, new_client, ClientSoFar, Closes, LinkCall, Opens, Receives, Sends, Ticks, begun, calling, acted_on, acting, acting_all, at_stage, clocked, commanding, fallen, hearing, is_refused_by_window, message_of, posting, rising, saying, stage_after_command, telegram_to, ticking, Stage}
 use Rattle.simulator_recovery.proofs.Words.Recovery.{HasCounted}
 use Rattle.simulator_spec.specs.ixl_client.declared.command.Command.{Command}
 use Rattle.simulator_recovery.proofs.Lemmas.Ground.ClientItem.{answers, changes, completes, Goes, one_item, starts, tells}
 use Rattle.simulator_recovery.proofs.Lemmas.Talk.ClientLinks.{answer_down, up_open}
 use Rattle.simulator_recovery.proofs.Lemmas.Ground.LinkCounts.{AfterReceipt, close_closes, comes_in, entered_open, open_counts, receipt_counts, send_counts, send_phase, send_was_open, settled_open, stays_in, tick_counts, tick_was_open}
 use Rattle.simulator_recovery.proofs.Lemmas.Ground.EndCalls.{each_both}
-use Rattle.simulator_recovery.proofs.Lemmas.Ground.FoundClients.{by_calls, shut, shut_so}
 
 -- a call that doesn't close the link for a full window
 abbrev pub LeavesWindow : LinkCall → Type 0
@@ -62,17 +61,17 @@ record Fine (commanded : Bool) (part : ClientSoFar) : Type 0 where
 
 -- ---- the end of a part, and the clock
 
-pub fallen_few : (commanded : Bool) (now : ℕ) (client : ClientState) → GivesFew commanded client → GivesFew commanded (watched now (fallen client))
+pub fallen_few : (commanded : Bool) (client : ClientState) → GivesFew commanded client → GivesFew commanded (fallen client)
 unfolding fallen
-fallen_few commanded now client few = choose (is_up client.link.phase) refl
+fallen_few commanded client few = choose (is_up client.link.phase) refl
   where
-    choose : (b : Bool) → is_up client.link.phase ≡ b → GivesFew commanded (watched now (if b then client else record client { stage = Stage.Outside }))
-    choose true e = record { inside = few.inside; starting = few.starting }
+    choose : (b : Bool) → is_up client.link.phase ≡ b → GivesFew commanded (if b then client else record client { stage = Stage.Outside })
+    choose true e = few
     choose false e = record { inside = λ up. absurd (false≢true (sym e ∙ up)); starting = few.starting }
 
 pub clocked_few : (commanded : Bool) (now : ℕ) (client : ClientState) → GivesFew commanded client → GivesFew commanded (clocked now client)
 unfolding clocked
-clocked_few commanded now client few = fallen_few commanded now (record client { link = settled now client.link }) (record {
+clocked_few commanded now client few = fallen_few commanded (record client { link = settled now client.link }) (record {
   inside = λ up.
       let so = settled_open now client.link (up_open (settled now client.link).phase up)
       in let w = few.inside (ap (λ (l : LinkState). is_up l.phase) (sym so.0) ∙ up)
@@ -85,7 +84,7 @@ clocked_few commanded now client few = fallen_few commanded now (record client {
 
 -- ---- what a client says
 
-pub shut_few : (commanded : Bool) (client : ClientState) → is_open client.link.phase ≡ false → GivesFew commanded client
+shut_few : (commanded : Bool) (client : ClientState) → is_open client.link.phase ≡ false → GivesFew commanded client
 shut_few commanded client shut = record { inside = λ up. absurd (false≢true (sym shut ∙ up_open client.link.phase up)); starting = λ opened down. absurd (false≢true (sym shut ∙ opened)) }
 
 module _ (now : ℕ) where
@@ -315,7 +314,7 @@ receives commanded now bytes part fine = record {
 
 hears : (commanded : Bool) (now : ℕ) (bytes : List ℕ) (part : ClientSoFar) → Fine commanded part → Fine commanded (hearing now bytes part)
 unfolding hearing
-hears commanded now bytes part fine = record { few = fallen_few commanded now done.client acted.few; calls = acted.calls }
+hears commanded now bytes part fine = record { few = fallen_few commanded done.client acted.few; calls = acted.calls }
   where
     items : List (List ℕ)
     items = (receiving now bytes part.client.link).items
@@ -330,7 +329,7 @@ hears commanded now bytes part fine = record { few = fallen_few commanded now do
 ticks : (commanded : Bool) (now : ℕ) (part : ClientSoFar) → Fine commanded part → Fine commanded (ticking now part)
 unfolding ticking calling
 ticks commanded now part fine = record {
-  few = fallen_few commanded now (calling now Opens (calling now Ticks part)).client (record {
+  few = fallen_few commanded (calling now Opens (calling now Ticks part)).client (record {
     inside = λ up. of_inside up (opened_by (up_open then_is.phase up));
     starting = λ opened down. of_starting down (opened_by opened);
   });
@@ -382,17 +381,11 @@ pub ticking_few : (commanded : Bool) (now : ℕ) (client : ClientState) (outbox 
     → FewSoFar commanded (ticking now (begun client outbox)).client (calls ++ (ticking now (begun client outbox)).calls)
 ticking_few commanded now client outbox calls so = behind commanded calls (ticking now (begun client outbox)) so.leaves (ticks commanded now (begun client outbox) (record { few = so.few; calls = tt }))
 
--- a link that isn't caught up any more is closed
-pub closing_few : (commanded : Bool) (now : ℕ) (client : ClientState) (outbox : OutboxState) (calls : List LinkCall) → FewSoFar commanded client calls
-    → FewSoFar commanded (closing_behind now (begun client outbox)).client (calls ++ (closing_behind now (begun client outbox)).calls)
-closing_few commanded now client outbox calls so = by_calls (FewSoFar commanded) now client outbox calls
-    (λ behind. record { few = shut_few commanded (shut now client) (shut_so now client).closed; leaves = each_both LeavesWindow calls (Closes Reason.User ∷ []) so.leaves (tt, tt) }) (λ calm. so)
-
 -- a command to a client that is ready, and whose window has room
 pub commanding_few : (now : ℕ) (command : Command) (client : ClientState) (outbox : OutboxState) (calls : List LinkCall) → is_ready client.stage ≡ true → (is_up client.link.phase ≡ true → length client.link.waiting < window_size) → FewSoFar true client calls
     → FewSoFar true (commanding now command (begun client outbox)).client (calls ++ (commanding now command (begun client outbox)).calls)
 unfolding commanding
-commanding_few now command client outbox calls ready room so = record { few = fallen_few true now then_at.client said.few; leaves = each_both LeavesWindow calls then_at.calls so.leaves said.calls }
+commanding_few now command client outbox calls ready room so = record { few = fallen_few true then_at.client said.few; leaves = each_both LeavesWindow calls then_at.calls so.leaves said.calls }
   where
     then_at : ClientSoFar
     then_at = at_stage (stage_after_command command client.stage) (posting now (message_of command) (begun client outbox))

@@ -1,7 +1,7 @@
 -- A step of a host closes no link, where the host expects each item that comes.
-use Rattle.simulator_recovery.proofs.Words.Basics.{◌≡◌, ℕ, zero, suc, ◌+◌, ◌≤◌, ◌∙◌, Bool, true, false, not, ◌&&◌, List, [], ◌∷◌, ◌++◌, length, Option, Some, None, Result, Ok, Err, slice_get, if◌then◌else◌, refl, sym, ap, subst, arith, is_ok, false≢true, ◌⊎◌, inl, inr, nat_le}
-use Rattle.simulator_recovery.proofs.Words.Links.{Each, answer_to_send, receiving, settled, is_open, Reason, SendFault, is_up}
-use Rattle.simulator_recovery.proofs.Words.Controllers.{reading, SciFault, NoMatch, Match, VersionAnswer, Message, Telegram, Behaviour, Closes, HostSoFar, HostState, LinkCall, Receives, Sends, at_stage, fallen, is_completed, is_outside, risen, said, silent, then_do, is_command, meaning, acting, acting_all, answering, beating, beginning, commanding, following, given as given_in, goes_on, hearing, host_step, initialising, most_owed, paid, paying, paying_first, posting, received, violating, Input, Report, Sense, Stage, after_refusal, is_refused_by_window, closing, found, going_on, watched, closes_when_refused}
+use Rattle.simulator_recovery.proofs.Words.Basics.{◌≡◌, ℕ, zero, suc, ◌+◌, ◌≤◌, ◌∙◌, Bool, true, false, not, ◌&&◌, List, [], ◌∷◌, ◌++◌, length, Option, Some, None, Result, Ok, Err, slice_get, if◌then◌else◌, refl, sym, ap, subst, arith, is_ok, false≢true}
+use Rattle.simulator_recovery.proofs.Words.Links.{Each, answer_to_send, receiving, settled, is_open}
+use Rattle.simulator_recovery.proofs.Words.Controllers.{reading, SciFault, NoMatch, Match, VersionAnswer, Message, Telegram, Behaviour, Closes, HostSoFar, HostState, LinkCall, Receives, Sends, at_stage, fallen, is_completed, is_outside, risen, said, silent, then_do, is_command, meaning, acting, acting_all, answering, beating, beginning, commanding, following, given as given_in, goes_on, hearing, host_step, initialising, most_owed, paid, paying, paying_first, posting, received, violating, Input, Report, Sense, Stage}
 use Rattle.simulator_recovery.proofs.Words.Interlockings.{PeerState, Node}
 use Rattle.simulator_recovery.proofs.Words.Stations.{Site, coming, IsPeer}
 use Rattle.simulator_recovery.proofs.Words.Recovery.{ClientSaid, IsGivenTo, commanded, AreMatched, HostActs, HostExpects, HostExpectsItem, HostGives, HostHasActedOn, WrittenIsRead}
@@ -9,137 +9,73 @@ use Rattle.simulator_spec.specs.object_host.Host.{Ticks}
 use Rattle.simulator_spec.specs.ixl_client.declared.command.Command.{Command}
 use Rattle.simulator_recovery.proofs.Lemmas.Talk.HostConversation.{admitted, host_acts}
 use Rattle.simulator_recovery.proofs.Lemmas.Talk.HostCounts.{acts as counts_item}
-use Rattle.simulator_recovery.proofs.Lemmas.Ground.HostKeeps.{Kept, ObjectKeeps, acted as keeps_item, begins as keeps_beginning, came as keeps_receipt, KeptSo, finds_so, heard_so, begins_so}
+use Rattle.simulator_recovery.proofs.Lemmas.Ground.HostKeeps.{Kept, ObjectKeeps, acted as keeps_item, begins as keeps_beginning, came as keeps_receipt}
 use Rattle.simulator_recovery.proofs.Lemmas.Ground.EndCalls.{each_both}
 use Rattle.simulator_recovery.proofs.Lemmas.Talk.AlwaysFits.{is_talking, item_expected, said_at}
-use Rattle.simulator_recovery.proofs.Lemmas.Ground.DueTests.{same_true, first_true}
-use Rattle.simulator_recovery.proofs.Lemmas.Ground.FoundHosts.{by_found}
+use Rattle.simulator_recovery.proofs.Lemmas.Ground.DueTests.{same_true}
 
--- A call that closes nothing; or a strict host closes what isn't caught up any more, and a detector's a link whose window is full.
-abbrev pub StaysOpen : (strict full : Bool) → LinkCall → Type 0
-StaysOpen strict full (Closes why) = (strict ≡ true) × ((why ≡ Reason.User) ⊎ ((full ≡ true) × (why ≡ Reason.Window)))
-StaysOpen strict full _ = Unit {0}
+-- a call that closes nothing
+abbrev pub StaysOpen : LinkCall → Type 0
+StaysOpen (Closes why) = ⊥
+StaysOpen _ = Unit {0}
 
-gives_open : (strict full : Bool) (calls : List LinkCall) → Each HostGives calls → Each (StaysOpen strict full) calls
-gives_open strict full [] each = tt
-gives_open strict full (Ticks ∷ others) each = absurd each.0
-gives_open strict full (Closes why ∷ others) each = absurd each.0
-gives_open strict full (Sends item ∷ others) each = (tt, gives_open strict full others each.1)
-gives_open strict full (Receives bytes ∷ others) each = absurd each.0
+gives_open : (calls : List LinkCall) → Each HostGives calls → Each StaysOpen calls
+gives_open [] each = tt
+gives_open (Ticks ∷ others) each = absurd each.0
+gives_open (Closes why ∷ others) each = absurd each.0
+gives_open (Sends item ∷ others) each = (tt, gives_open others each.1)
+gives_open (Receives bytes ∷ others) each = absurd each.0
 
 module _ {Object : Type 0} (does : Behaviour Object) (now : ℕ) where
-  -- ---- what a host keeps of itself
-
-  all_keep : (version : ℕ) → ObjectKeeps does (λ object. Unit {0}) version
-  all_keep version = record { takes = λ at telegram object e is. tt; ticks = λ at object is. tt; senses = λ at contact object is. tt; keeps = λ moment object is. tt; pays = λ object is. tt; loses = λ object is. tt }
-
-  abbrev KeepsStrict : HostState Object → HostState Object → Type 0
-  KeepsStrict host after = KeptSo does (λ object. Unit {0}) host.version host.own_name host.peer_name (all_keep host.version) host.is_strict after
-
-  itself : (host : HostState Object) → KeepsStrict host host
-  itself host = record { object = tt; own_is = refl; peer_is = refl; version_is = refl; strict_is = refl }
-
-  finds_strict : (host : HostState Object) → KeepsStrict host (found does now host).host
-  finds_strict host = finds_so does (λ object. Unit {0}) host.version host.own_name host.peer_name (all_keep host.version) host.is_strict now host (itself host)
-
-  hears_strict : (input : Input) (host : HostState Object) → KeepsStrict host (given_in does now input (found does now host).host).host
-  hears_strict input host = heard_so does (λ object. Unit {0}) host.version host.own_name host.peer_name (all_keep host.version) host.is_strict now input (found does now host).host (finds_strict host)
-
   -- ---- reports that are owed
 
-  module _ (strict : Bool) where
-    abbrev Open : List LinkCall → Type 0
-    Open calls = Each (StaysOpen strict does.closes_when_full) calls
+  first_gives : (report : Option Report) (host : HostState Object) → Each HostGives (paying_first does now report host).calls
+  unfolding posting
+  first_gives None host = tt
+  first_gives (Some report) host = cases (is_completed host.stage) (is_ok (answer_to_send now host.link))
+    where
+      sent : HostSoFar Object
+      sent = posting now report host
 
-    refusal_open : (answer : Result Unit SendFault) (host : HostState Object) → host.is_strict ≡ strict → Open (after_refusal does now answer host).calls
-    unfolding after_refusal
-    refusal_open answer host is = choose host.is_strict refl does.closes_when_full refl (is_refused_by_window answer)
-      where
-        choose : (a : Bool) → host.is_strict ≡ a → (b : Bool) → does.closes_when_full ≡ b → (c : Bool) → Open (if a && b && c then closing now Reason.Window host else silent host).calls
-        choose false e b f c = tt
-        choose true e false f c = tt
-        choose true e true f false = tt
-        choose true e true f true = ((sym is ∙ e, inr (f, refl)), tt)
+      cases : (b c : Bool) → Each HostGives (if not b then silent (paid does host) else (if c then record sent { host = paid does sent.host } else sent)).calls
+      cases false c = tt
+      cases true true = (tt, tt)
+      cases true false = (tt, tt)
 
-    record PaysOpen (part : HostSoFar Object) : Type 0 where
-      calls_open : Open part.calls
-      strict_is : part.host.is_strict ≡ strict
+  pay_gives : (most : ℕ) (host : HostState Object) → Each HostGives (paying does now most host).calls
+  unfolding paying
+  pay_gives zero host = tt
+  pay_gives (suc more) host = choose (goes_on now (does.owed host.object) host) (each_both HostGives first.calls (paying does now more first.host).calls (first_gives (does.owed host.object) host) (pay_gives more first.host))
+    where
+      first : HostSoFar Object
+      first = paying_first does now (does.owed host.object) host
 
-    refusal_strict : (answer : Result Unit SendFault) (host : HostState Object) → host.is_strict ≡ strict → (after_refusal does now answer host).host.is_strict ≡ strict
-    unfolding after_refusal
-    refusal_strict answer host is = choose (closes_when_refused does answer host)
-      where
-        choose : (b : Bool) → (if b then closing now Reason.Window host else silent host).host.is_strict ≡ strict
-        choose true = is
-        choose false = is
-
-    first_open : (report : Option Report) (host : HostState Object) → host.is_strict ≡ strict → PaysOpen (paying_first does now report host)
-    unfolding posting
-    first_open None host is = record { calls_open = tt; strict_is = is }
-    first_open (Some report) host is = cases (is_completed host.stage) (is_ok (answer_to_send now host.link))
-      where
-        sent : HostSoFar Object
-        sent = posting now report host
-
-        cases : (b c : Bool) → PaysOpen (if not b then silent (paid does host) else (if c then record sent { host = paid does sent.host } else then_do sent (after_refusal does now (answer_to_send now host.link))))
-        cases false c = record { calls_open = tt; strict_is = is }
-        cases true true = record { calls_open = (tt, tt); strict_is = is }
-        cases true false = record { calls_open = (tt, refusal_open (answer_to_send now host.link) sent.host is); strict_is = refusal_strict (answer_to_send now host.link) sent.host is }
-
-    pay_open : (most : ℕ) (host : HostState Object) → host.is_strict ≡ strict → Open (paying does now most host).calls
-    unfolding paying
-    pay_open zero host is = tt
-    pay_open (suc more) host is = choose (goes_on now (does.owed host.object) host) (each_both (StaysOpen strict does.closes_when_full) first.calls (paying does now more first.host).calls does_so.calls_open (pay_open more first.host does_so.strict_is))
-      where
-        first : HostSoFar Object
-        first = paying_first does now (does.owed host.object) host
-
-        does_so : PaysOpen first
-        does_so = first_open (does.owed host.object) host is
-
-        choose : (b : Bool) → Open (then_do first (paying does now more)).calls → Open (if b then then_do first (paying does now more) else first).calls
-        choose true so = so
-        choose false so = does_so.calls_open
+      choose : (b : Bool) → Each HostGives (then_do first (paying does now more)).calls → Each HostGives (if b then then_do first (paying does now more) else first).calls
+      choose true so = so
+      choose false so = first_gives (does.owed host.object) host
 
   -- ---- steps
 
-  abbrev pub Leaves : HostState Object → List LinkCall → Type 0
-  Leaves host calls = Each (StaysOpen host.is_strict does.closes_when_full) calls
+  pub tick_open : (host : HostState Object) → Each StaysOpen (host_step does now Input.Tick host).calls
+  unfolding host_step given_in beating
+  tick_open host = each_both StaysOpen (paying does now most_owed (beginning does now host)).calls (Ticks ∷ []) (gives_open _ (pay_gives most_owed (beginning does now host))) (tt, tt)
 
-  -- a link that isn't caught up any more
-  found_open : (host : HostState Object) → Leaves host (found does now host).calls
-  found_open host = by_found does now (λ (part : HostSoFar Object). Leaves host part.calls) host (λ calm. tt)
-      (λ behind. ((sym strict_same ∙ first_true (beginning does now host).is_strict (is_up (beginning does now host).link.phase && nat_le (beginning does now host).caught_up_until now) behind, inl refl), tt))
-    where
-      strict_same : (beginning does now host).is_strict ≡ host.is_strict
-      strict_same = (begins_so does (λ object. Unit {0}) host.version host.own_name host.peer_name (all_keep host.version) host.is_strict now host (itself host)).strict_is
-
-  pays_then : (host after : HostState Object) → KeepsStrict host after → Leaves host (paying does now most_owed after).calls
-  pays_then host after kept = pay_open host.is_strict most_owed after kept.strict_is
-
-  pub tick_open : (host : HostState Object) → Leaves host (host_step does now Input.Tick host).calls
-  unfolding host_step going_on given_in beating
-  tick_open host = each_both (StaysOpen host.is_strict does.closes_when_full) (found does now host).calls ((paying does now most_owed (found does now host).host).calls ++ (Ticks ∷ [])) (found_open host)
-      (each_both (StaysOpen host.is_strict does.closes_when_full) (paying does now most_owed (found does now host).host).calls (Ticks ∷ []) (pays_then host (found does now host).host (finds_strict host)) (tt, tt))
-
-  pub sense_open : (contact : Sense) (host : HostState Object) → Leaves host (host_step does now (Input.Sense contact) host).calls
-  unfolding host_step going_on given_in beating
-  sense_open contact host = each_both (StaysOpen host.is_strict does.closes_when_full) (found does now host).calls ((paying does now most_owed sensed).calls ++ []) (found_open host)
-      (each_both (StaysOpen host.is_strict does.closes_when_full) (paying does now most_owed sensed).calls [] (pays_then host sensed (hears_strict (Input.Sense contact) host)) tt)
+  pub sense_open : (contact : Sense) (host : HostState Object) → Each StaysOpen (host_step does now (Input.Sense contact) host).calls
+  unfolding host_step given_in beating
+  sense_open contact host = each_both StaysOpen (paying does now most_owed sensed).calls [] (gives_open _ (pay_gives most_owed sensed)) tt
     where
       sensed : HostState Object
-      sensed = record (found does now host).host { object = does.after_sense now contact (found does now host).host.object }
+      sensed = record (beginning does now host) { object = does.after_sense now contact (beginning does now host).object }
 
   -- what comes, where acting on it gives items at most
   pub datagram_open : (bytes : List ℕ) (host : HostState Object)
-      → Each HostGives (acting_all does now (receiving now bytes (found does now host).host.link).items (received now bytes (receiving now bytes (found does now host).host.link) (found does now host).host).host).calls
-      → Leaves host (host_step does now (coming bytes) host).calls
-  unfolding host_step going_on given_in beating hearing received
-  datagram_open bytes host gives = each_both (StaysOpen host.is_strict does.closes_when_full) (found does now host).calls (((Receives bytes ∷ acted) ++ paid_for) ++ []) (found_open host)
-      (tt, each_both (StaysOpen host.is_strict does.closes_when_full) (acted ++ paid_for) [] (each_both (StaysOpen host.is_strict does.closes_when_full) acted paid_for (gives_open host.is_strict does.closes_when_full acted gives) (pays_then host (hearing does now bytes begun).host (hears_strict (coming bytes) host))) tt)
+      → Each HostGives (acting_all does now (receiving now bytes (beginning does now host).link).items (received now bytes (receiving now bytes (beginning does now host).link) (beginning does now host)).host).calls
+      → Each StaysOpen (host_step does now (coming bytes) host).calls
+  unfolding host_step given_in beating hearing received
+  datagram_open bytes host gives = (tt, each_both StaysOpen (acted ++ paid_for) [] (each_both StaysOpen acted paid_for (gives_open acted gives) (gives_open paid_for (pay_gives most_owed (hearing does now bytes begun).host))) tt)
     where
       begun : HostState Object
-      begun = (found does now host).host
+      begun = beginning does now host
 
       acted : List LinkCall
       acted = (acting_all does now (receiving now bytes begun.link).items (received now bytes (receiving now bytes begun.link) begun).host).calls
@@ -165,7 +101,7 @@ module _ {Object : Type 0} (does : Behaviour Object) (now : ℕ) where
       lost = record at { stage = Stage.Outside; object = does.after_loss host.object }
 
       ticked : HostState Object → HostState Object
-      ticked h = record (watched now h) { object = does.after_tick now h.object }
+      ticked h = record h { object = does.after_tick now h.object }
 
       by : (x y : Bool) → is_open (settled now host.link).phase ≡ y → IsFoundOpen host (ticked (if not x && not y then lost else at))
       by true y h = record { link = refl; inside = λ opened. refl }
@@ -240,6 +176,9 @@ module _ {Object : Type 0} (does : Behaviour Object) (now : ℕ) where
       (follow_talks item telegram host.stage telegram.message host refl expects)
 
   -- ---- names
+
+  all_keep : (version : ℕ) → ObjectKeeps does (λ object. Unit {0}) version
+  all_keep version = record { takes = λ at telegram object e is. tt; ticks = λ at object is. tt; senses = λ at contact object is. tt; keeps = λ moment object is. tt; pays = λ object is. tt; loses = λ object is. tt }
 
   abbrev KeepsNames : HostState Object → HostState Object → Type 0
   KeepsNames host after = Kept does (λ object. Unit {0}) host.version host.own_name host.peer_name (all_keep host.version) after

@@ -1,7 +1,7 @@
--- No controller of a station closes its link, but where trains are kept apart, in any event after any list of events.
+-- No controller of a station closes its link, in any event after any list of events.
 use Rattle.simulator_recovery.proofs.Words.Basics.{◌≡◌, ◌⊎◌, inl, inr, ℕ, ◌+◌, ◌<◌, ◌≤◌, ◌∙◌, Bool, true, false, List, [], ◌∷◌, ◌++◌, length, map, Option, Some, None, slice_get, refl, sym, ap, subst, arith, false≢true, length-append}
-use Rattle.simulator_recovery.proofs.Words.Links.{receiving, settled, Each, AreTimely, Receives, reading_of, MayCall, Timely, AreLinks, CallsOn, Links, MayCallOn, begun, seen, AreNames, Names, NodeCall, calls_of, restarts_of, Receipt, Ends, IsSafe, LinkState, is_open, Role, Reason}
-use Rattle.simulator_recovery.proofs.Words.Controllers.{as_call, reading, Behaviour, Closes, HostState, LinkCall, Sends, items_given, acting, acting_all, beginning, received, Input, Sense, Stage, SignalState, signal_behaviour, point_behaviour, PointState, detection_behaviour, Section, HostSoFar}
+use Rattle.simulator_recovery.proofs.Words.Links.{receiving, settled, Each, AreTimely, Receives, reading_of, MayCall, Timely, AreLinks, CallsOn, Links, MayCallOn, begun, seen, AreNames, Names, NodeCall, calls_of, restarts_of, Receipt, Ends, IsSafe, LinkState, is_open, Role}
+use Rattle.simulator_recovery.proofs.Words.Controllers.{as_call, reading, Behaviour, Closes, HostState, LinkCall, Sends, items_given, acting, acting_all, beginning, received, Input, Sense, Stage, SignalState, signal_behaviour, point_behaviour, PointState, detection_behaviour, Section}
 use Rattle.simulator_recovery.proofs.Words.Interlockings.{IsTableOf, ClientState, Detector, Node, Point, Signal, Table}
 use Rattle.simulator_recovery.proofs.Words.Stations.{Site, Once, IsStation, Event, step_of, coming, interlocking_step, AreLinksOf, names_at, starts_at_zero, connection_of, copy_of, detector_link, links, node_at, point_link, refusal, ClockedControllerState, WorldState, node_call, anew_events, contact_events, delivery_events, events_of, host_events, interlocking_events, numbers_below, restart_events, tick_events, links_in, IsReached}
 use Rattle.simulator_recovery.proofs.Words.Recovery.{IsGivenTo, commanded, LeavesServerOpen, AreMatched, HostExpectsItem, HostGives, HostHasActedOn, GoOn, LawsBelow}
@@ -10,21 +10,19 @@ use Rattle.simulator_spec.specs.object_host.Host as hosts
 use Rattle.simulator_spec.specs.ixl_client.declared.command.Command.{Command}
 use Rattle.simulator_spec.specs.ixl_spec.Step as ixl
 use Rattle.simulator_spec.specs.Nodes as nodes
-use Rattle.simulator_recovery.proofs.Lemmas.Talk.AlwaysExpected.{Stands, stands_first, stands_on, same_length}
+use Rattle.simulator_recovery.proofs.Lemmas.Talk.AlwaysExpected.{Stands, stands_first, stands_on}
 use Rattle.simulator_recovery.proofs.Lemmas.Talk.AlwaysFits.{acted_there, detector_fits, point_fits, refuses_none, signal_fits, was_open, none_waits}
 use Rattle.simulator_recovery.proofs.Lemmas.Ground.SectionsEvents.{HasHeld, always_held}
 use Rattle.simulator_recovery.proofs.Lemmas.Ground.AtLink.{of_second}
 use Rattle.simulator_recovery.proofs.Lemmas.Talk.BothEnds.{DetectorJoined, Joined, PointJoined, SignalJoined, detector_joined, point_joined, signal_joined}
 use Rattle.simulator_recovery.proofs.Lemmas.Talk.HostCounts.{risen_has}
 use Rattle.simulator_recovery.proofs.Lemmas.Ground.HostKeeps.{ObjectKeeps}
-use Rattle.simulator_recovery.proofs.Lemmas.Windows.HostOpen.{IsReady, StaysOpen, all_give, datagram_open, finds, receipt_matched, risen_link, risen_talks, sense_open, shut_acts, tick_open, Leaves}
+use Rattle.simulator_recovery.proofs.Lemmas.Windows.HostOpen.{IsReady, StaysOpen, all_give, datagram_open, finds, receipt_matched, risen_link, risen_talks, sense_open, shut_acts, tick_open}
 use Rattle.simulator_recovery.proofs.Lemmas.Ground.LinkCounts.{AfterReceipt, comes_in, receipt_counts, stays_in}
 use Rattle.simulator_recovery.proofs.Lemmas.Ground.MatchedEnds.{spoken}
 use Rattle.simulator_recovery.proofs.Lemmas.Talk.PointCounts as points
 use Rattle.simulator_recovery.proofs.Lemmas.Talk.PointCounts.{Within, begins_so, waits, within_ever}
 use Rattle.simulator_recovery.proofs.Lemmas.Links.NextItems.{goes_on}
-use Rattle.simulator_recovery.proofs.Lemmas.Ground.FoundHosts.{by_found, shut, shut_rests}
-use Rattle.simulator_recovery.proofs.Lemmas.Ground.ShutLinks.{receives_none}
 
 -- ---- one link
 
@@ -114,46 +112,34 @@ module _ (laws : LawsBelow) (site : Site) (node : Node) {Object : Type 0} (does 
         by_links true e true f = inside_gives e (ap (λ (l : LinkState). is_open l.phase) link_same ∙ f)
         by_links true e false f = entering_gives e f
 
-    -- one that closes its link takes none
-    closed_gives : (host : HostState Object) → (receiving now bytes host.link).items ≡ [] → Each HostGives (acting_all does now (receiving now bytes host.link).items (received now bytes (receiving now bytes host.link) host).host).calls
-    unfolding acting_all
-    closed_gives host none = subst (λ (items : List (List ℕ)). Each HostGives (acting_all does now items (received now bytes (receiving now bytes host.link) host).host).calls) (sym none) tt
-
-    pub receipt_open : Leaves does c.host (step_of does (coming bytes) c).calls
-    receipt_open = datagram_open does now bytes c.host
-        (by_found does now (λ (part : HostSoFar Object). Each HostGives (acting_all does now (receiving now bytes part.host.link).items (received now bytes (receiving now bytes part.host.link) part.host).host).calls) c.host
-        (λ calm. receipt_gives) (λ behind. closed_gives (shut does now (beginning does now c.host)).host (receives_none now bytes _ (shut_rests does now c.host behind).closed)))
+    pub receipt_open : Each StaysOpen (step_of does (coming bytes) c).calls
+    receipt_open = datagram_open does now bytes c.host receipt_gives
 
 -- ---- the calls of a step
 
-module _ (site : Site) (link : ℕ) {strict full : Bool} (of_trains : strict ≡ true → site.station.trains ≡ true) (of_detector : full ≡ true → detector_link site 0 ≤ link) where
-  all_open : (connection : ℕ) (calls : List LinkCall) → Each (StaysOpen strict full) calls → Each (LeavesServerOpen site) (map (λ call. CallsOn link Role.Server call) (map (as_call connection) calls))
-  all_open connection [] each = tt
-  all_open connection (Ticks ∷ others) each = (tt, all_open connection others each.1)
-  all_open connection (Closes why ∷ others) each = ((of_trains each.0.0, by each.0.1), all_open connection others each.1)
-    where
-      by : ((why ≡ Reason.User) ⊎ ((full ≡ true) × (why ≡ Reason.Window))) → (why ≡ Reason.User) ⊎ ((Role.Server ≡ Role.Server) × (detector_link site 0 ≤ link) × (why ≡ Reason.Window))
-      by (inl user) = inl user
-      by (inr (is_full, window)) = inr (refl, of_detector is_full, window)
-  all_open connection (Sends item ∷ others) each = (tt, all_open connection others each.1)
-  all_open connection (hosts.Receives bytes ∷ others) each = (tt, all_open connection others each.1)
+all_open : (connection link : ℕ) (calls : List LinkCall) → Each StaysOpen calls → Each LeavesServerOpen (map (λ call. CallsOn link Role.Server call) (map (as_call connection) calls))
+all_open connection link [] each = tt
+all_open connection link (Ticks ∷ others) each = (tt, all_open connection link others each.1)
+all_open connection link (Closes why ∷ others) each = absurd each.0
+all_open connection link (Sends item ∷ others) each = (tt, all_open connection link others each.1)
+all_open connection link (hosts.Receives bytes ∷ others) each = (tt, all_open connection link others each.1)
 
-host_open : {Object : Type 0} (site : Site) (does : Behaviour Object) (input : Input) (connection link : ℕ) (found : Option (ClockedControllerState Object)) → ((c : ClockedControllerState Object) → found ≡ Some c → c.host.is_strict ≡ site.station.trains)
-    → (does.closes_when_full ≡ true → detector_link site 0 ≤ link) → ((c : ClockedControllerState Object) → found ≡ Some c → Leaves does c.host (step_of does input c).calls) → Each (LeavesServerOpen site) (host_events does input connection link found)
-host_open site does input connection link None strict full each = tt
-host_open site does input connection link (Some c) strict full each = all_open site link (λ is. sym (strict c refl) ∙ is) full connection (step_of does input c).calls (each c refl)
+host_open : {Object : Type 0} (does : Behaviour Object) (input : Input) (connection link : ℕ) (found : Option (ClockedControllerState Object)) → ((c : ClockedControllerState Object) → found ≡ Some c → Each StaysOpen (step_of does input c).calls)
+    → Each LeavesServerOpen (host_events does input connection link found)
+host_open does input connection link None each = tt
+host_open does input connection link (Some c) each = all_open connection link (step_of does input c).calls (each c refl)
 
-clients_open : (site : Site) (calls : List NodeCall) → Each (LeavesServerOpen site) (calls_of Role.Client calls)
-clients_open site [] = tt
-clients_open site (first ∷ others) = (tt, clients_open site others)
+clients_open : (calls : List NodeCall) → Each LeavesServerOpen (calls_of Role.Client calls)
+clients_open [] = tt
+clients_open (first ∷ others) = (tt, clients_open others)
 
-clients_anew : (site : Site) (clock : ℕ) (firsts : ℕ → ℕ) (numbers : List ℕ) → Each (LeavesServerOpen site) (restarts_of Role.Client clock firsts numbers)
-clients_anew site clock firsts [] = tt
-clients_anew site clock firsts (first ∷ others) = (tt, clients_anew site clock firsts others)
+clients_anew : (clock : ℕ) (firsts : ℕ → ℕ) (numbers : List ℕ) → Each LeavesServerOpen (restarts_of Role.Client clock firsts numbers)
+clients_anew clock firsts [] = tt
+clients_anew clock firsts (first ∷ others) = (tt, clients_anew clock firsts others)
 
-anew_open : {Entry : Type 0} (site : Site) (clock first link : ℕ) (found : Option Entry) → Each (LeavesServerOpen site) (anew_events clock first link found)
-anew_open site clock first link None = tt
-anew_open site clock first link (Some entry) = (tt, tt)
+anew_open : {Entry : Type 0} (clock first link : ℕ) (found : Option Entry) → Each LeavesServerOpen (anew_events clock first link found)
+anew_open clock first link None = tt
+anew_open clock first link (Some entry) = (tt, tt)
 
 -- ---- a station
 
@@ -165,34 +151,15 @@ record Counts (taken count : ℕ) (host : HostState PointState) : Type 0 where
 
 module _ (laws : LawsBelow) (site : Site) (table : Table) (station : IsStation site) (once : Once site) (is_table : IsTableOf site table) (world : WorldState) (network : Links) (are : AreLinksOf site world network)
     (s : Stands laws site table station once is_table world network) (named : AreLinks (links site) (names_at site)) (timely : AreTimely (links site) (names_at site) network) where
-  -- each host is strict where trains are kept apart
-  strict_signal : (place : ℕ) (c : ClockedControllerState SignalState) → slice_get world.signals place ≡ Some c → c.host.is_strict ≡ site.station.trains
-  strict_signal place c g =
-      let entry = same_length laws site table station once is_table world.signals site.signals s.whole.signals place c g
-      in (s.talking.matching.of_signals place c g entry.0 entry.1).strict_is
-
-  strict_point : (place : ℕ) (c : ClockedControllerState PointState) → slice_get world.points place ≡ Some c → c.host.is_strict ≡ site.station.trains
-  strict_point place c g =
-      let entry = same_length laws site table station once is_table world.points site.points s.whole.points place c g
-      in (s.talking.matching.of_points place c g entry.0 entry.1).strict_is
-
-  strict_detector : (place : ℕ) (c : ClockedControllerState (List Section)) → slice_get world.detectors place ≡ Some c → c.host.is_strict ≡ site.station.trains
-  strict_detector place c g =
-      let entry = same_length laws site table station once is_table world.detectors site.detectors s.whole.detectors place c g
-      in (s.talking.matching.of_detectors place c g entry.0 entry.1).strict_is
-
-  of_detectors : (place : ℕ) → detector_link site 0 ≤ detector_link site place
-  of_detectors place = omega arith
-
-  interlocking_open : (input : ixl.Input) (connection : ℕ) → Each (LeavesServerOpen site) (interlocking_events site table input connection world.interlocking)
-  interlocking_open input connection = clients_open site (map (node_call site connection) (interlocking_step site table input world.interlocking).calls)
+  interlocking_open : (input : ixl.Input) (connection : ℕ) → Each LeavesServerOpen (interlocking_events site table input connection world.interlocking)
+  interlocking_open input connection = clients_open (map (node_call site connection) (interlocking_step site table input world.interlocking).calls)
 
   -- a datagram that may come to each link
   module _ (bytes : List ℕ) (connection : ℕ) (may : (link : ℕ) → MayCallOn (names_at site link) (Receives bytes connection) network) where
     may_call : (link : ℕ) → link < links site → MayCall (names_at site link) Role.Server (Receives bytes connection) (seen link network)
     may_call link below = laws.deliveries_may_come_ends site Role.Server bytes connection network named timely link below (may link)
 
-    signal_open : (place : ℕ) (c : ClockedControllerState SignalState) → slice_get world.signals place ≡ Some c → Leaves signal_behaviour c.host (step_of signal_behaviour (coming bytes) c).calls
+    signal_open : (place : ℕ) (c : ClockedControllerState SignalState) → slice_get world.signals place ≡ Some c → Each StaysOpen (step_of signal_behaviour (coming bytes) c).calls
     signal_open place c g = receipt_open laws site (Signal place) signal_behaviour _ k.entry.name _ c k.known.client (names_at site place) (seen place network) k.joined (named.each place k.below) (timely.each place k.below) bytes connection (may_call place k.below)
         (λ count host. Unit {0}) (λ in_connection of_client of_server opened. tt)
         (λ count host more matched far item at completed. signal_fits laws.written_telegram_is_read site place k.known.client.peer host k.joined.is_peer matched (matched.version ∙ sym version_is) completed (reading_of c.clock)) (λ count item host more acts. tt)
@@ -203,7 +170,7 @@ module _ (laws : LawsBelow) (site : Site) (table : Table) (station : IsStation s
         version_is : spoken site ≡ k.known.client.peer.version
         version_is = sym k.joined.tells.kept_so.version_is ∙ k.joined.matched.version
 
-    point_open : (place : ℕ) (c : ClockedControllerState PointState) → slice_get world.points place ≡ Some c → Leaves point_behaviour c.host (step_of point_behaviour (coming bytes) c).calls
+    point_open : (place : ℕ) (c : ClockedControllerState PointState) → slice_get world.points place ≡ Some c → Each StaysOpen (step_of point_behaviour (coming bytes) c).calls
     point_open place c g = receipt_open laws site (Point place) point_behaviour _ k.entry.name _ c k.known.client (names_at site (point_link site place)) ends k.joined (named.each (point_link site place) k.below) (timely.each (point_link site place) k.below)
         bytes connection (may_call (point_link site place) k.below) (Counts (length ends.client.taken)) counts_first
         (λ count host more matched far item at completed. point_fits laws.written_telegram_is_read site place k.known.client.peer host k.joined.is_peer matched
@@ -248,7 +215,7 @@ module _ (laws : LawsBelow) (site : Site) (table : Table) (station : IsStation s
                 (subst (λ (x : Stage). Within x (length ends.server.given) (length ends.server.taken) (waits (beginning point_behaviour now c.host).object)) (sym (b.inside open_so).0)
                 (subst (λ (n : ℕ). Within c.host.stage (length ends.server.given) (length ends.server.taken) n) (sym (b.inside open_so).1) within))
 
-    detector_open : (place : ℕ) (c : ClockedControllerState (List Section)) → slice_get world.detectors place ≡ Some c → Leaves detection_behaviour c.host (step_of detection_behaviour (coming bytes) c).calls
+    detector_open : (place : ℕ) (c : ClockedControllerState (List Section)) → slice_get world.detectors place ≡ Some c → Each StaysOpen (step_of detection_behaviour (coming bytes) c).calls
     detector_open place c g = receipt_open laws site (Detector place) detection_behaviour _ k.entry.name _ c k.known.client (names_at site (detector_link site place)) (seen (detector_link site place) network) k.joined
         (named.each (detector_link site place) k.below) (timely.each (detector_link site place) k.below) bytes connection (may_call (detector_link site place) k.below)
         (λ count host. Unit {0}) (λ in_connection of_client of_server opened. tt) (λ count host more matched far item at completed. detector_fits site place k.known.client.peer host (reading_of c.clock)) (λ count item host more acts. tt)
@@ -256,32 +223,32 @@ module _ (laws : LawsBelow) (site : Site) (table : Table) (station : IsStation s
         k : DetectorJoined laws site table station once is_table world network are s place c
         k = detector_joined laws site table station once is_table world network are s place c g
 
-    comes_open : (node : Option nodes.Node) → Each (LeavesServerOpen site) (delivery_events site table bytes connection node world)
+    comes_open : (node : Option nodes.Node) → Each LeavesServerOpen (delivery_events site table bytes connection node world)
     comes_open None = tt
     comes_open (Some nodes.Interlocking) = interlocking_open (ixl.Datagram bytes) connection
-    comes_open (Some (nodes.Signal place)) = host_open site signal_behaviour (coming bytes) connection place (slice_get world.signals place) (strict_signal place) (λ is. absurd (false≢true is)) (signal_open place)
-    comes_open (Some (nodes.Point place)) = host_open site point_behaviour (coming bytes) connection (point_link site place) (slice_get world.points place) (strict_point place) (λ is. absurd (false≢true is)) (point_open place)
-    comes_open (Some (nodes.Detector place)) = host_open site detection_behaviour (coming bytes) connection (detector_link site place) (slice_get world.detectors place) (strict_detector place) (λ is. of_detectors place) (detector_open place)
+    comes_open (Some (nodes.Signal place)) = host_open signal_behaviour (coming bytes) connection place (slice_get world.signals place) (signal_open place)
+    comes_open (Some (nodes.Point place)) = host_open point_behaviour (coming bytes) connection (point_link site place) (slice_get world.points place) (point_open place)
+    comes_open (Some (nodes.Detector place)) = host_open detection_behaviour (coming bytes) connection (detector_link site place) (slice_get world.detectors place) (detector_open place)
 
-  ticks_open : (node : Option nodes.Node) → Each (LeavesServerOpen site) (tick_events site table node world)
+  ticks_open : (node : Option nodes.Node) → Each LeavesServerOpen (tick_events site table node world)
   ticks_open None = tt
   ticks_open (Some nodes.Interlocking) = interlocking_open ixl.Tick 0
-  ticks_open (Some (nodes.Signal place)) = host_open site signal_behaviour Input.Tick 0 place (slice_get world.signals place) (strict_signal place) (λ is. absurd (false≢true is)) (λ c e. tick_open signal_behaviour (reading_of c.clock) c.host)
-  ticks_open (Some (nodes.Point place)) = host_open site point_behaviour Input.Tick 0 (point_link site place) (slice_get world.points place) (strict_point place) (λ is. absurd (false≢true is)) (λ c e. tick_open point_behaviour (reading_of c.clock) c.host)
-  ticks_open (Some (nodes.Detector place)) = host_open site detection_behaviour Input.Tick 0 (detector_link site place) (slice_get world.detectors place) (strict_detector place) (λ is. of_detectors place) (λ c e. tick_open detection_behaviour (reading_of c.clock) c.host)
+  ticks_open (Some (nodes.Signal place)) = host_open signal_behaviour Input.Tick 0 place (slice_get world.signals place) (λ c e. tick_open signal_behaviour (reading_of c.clock) c.host)
+  ticks_open (Some (nodes.Point place)) = host_open point_behaviour Input.Tick 0 (point_link site place) (slice_get world.points place) (λ c e. tick_open point_behaviour (reading_of c.clock) c.host)
+  ticks_open (Some (nodes.Detector place)) = host_open detection_behaviour Input.Tick 0 (detector_link site place) (slice_get world.detectors place) (λ c e. tick_open detection_behaviour (reading_of c.clock) c.host)
 
-  contacts_open : (reporter : Option (ℕ × ℕ)) (contact : ℕ → Sense) → Each (LeavesServerOpen site) (contact_events site reporter (λ place. Input.Sense (contact place)) world.detectors)
+  contacts_open : (reporter : Option (ℕ × ℕ)) (contact : ℕ → Sense) → Each LeavesServerOpen (contact_events site reporter (λ place. Input.Sense (contact place)) world.detectors)
   contacts_open None contact = tt
-  contacts_open (Some reporter) contact = host_open site detection_behaviour (Input.Sense (contact reporter.1)) 0 (detector_link site reporter.0) (slice_get world.detectors reporter.0) (strict_detector reporter.0) (λ is. of_detectors reporter.0) (λ c e. sense_open detection_behaviour (reading_of c.clock) (contact reporter.1) c.host)
+  contacts_open (Some reporter) contact = host_open detection_behaviour (Input.Sense (contact reporter.1)) 0 (detector_link site reporter.0) (slice_get world.detectors reporter.0) (λ c e. sense_open detection_behaviour (reading_of c.clock) (contact reporter.1) c.host)
 
-  restarts_open : (clock first : ℕ) (node : Option nodes.Node) → Each (LeavesServerOpen site) (restart_events site clock first node)
+  restarts_open : (clock first : ℕ) (node : Option nodes.Node) → Each LeavesServerOpen (restart_events site clock first node)
   restarts_open clock first None = tt
-  restarts_open clock first (Some nodes.Interlocking) = clients_anew site clock (λ link. first) (numbers_below (links site))
-  restarts_open clock first (Some (nodes.Signal place)) = anew_open site clock first place (slice_get site.signals place)
-  restarts_open clock first (Some (nodes.Point place)) = anew_open site clock first (point_link site place) (slice_get site.points place)
-  restarts_open clock first (Some (nodes.Detector place)) = anew_open site clock first (detector_link site place) (slice_get site.detectors place)
+  restarts_open clock first (Some nodes.Interlocking) = clients_anew clock (λ link. first) (numbers_below (links site))
+  restarts_open clock first (Some (nodes.Signal place)) = anew_open clock first place (slice_get site.signals place)
+  restarts_open clock first (Some (nodes.Point place)) = anew_open clock first (point_link site place) (slice_get site.points place)
+  restarts_open clock first (Some (nodes.Detector place)) = anew_open clock first (detector_link site place) (slice_get site.detectors place)
 
-  pub event_open : (happening : Event) → refusal site happening world ≡ None → Each (LeavesServerOpen site) (events_of site table happening world)
+  pub event_open : (happening : Event) → refusal site happening world ≡ None → Each LeavesServerOpen (events_of site table happening world)
   unfolding events_of
   event_open (Event.Request command) can = interlocking_open (ixl.Commands command) 0
   event_open (Event.Occupy section occupancy) can = contacts_open (slice_get table.reporters section.0) (λ place. Sense.Section place occupancy)
@@ -289,11 +256,11 @@ module _ (laws : LawsBelow) (site : Site) (table : Table) (station : IsStation s
   event_open (Event.Time elapsed clocks) can = (tt, tt)
   event_open (Event.Deliver node bytes) can = comes_open bytes (connection_of (copy_of bytes world)) (laws.deliveries_may_come_links site node bytes world network are can) (node_at site node.0)
   event_open (Event.Lose bytes) can = (tt, tt)
-  event_open (Event.Reach point position) can = host_open site point_behaviour (Input.Sense (Sense.Position position)) 0 (point_link site point.0) (slice_get world.points point.0) (strict_point point.0) (λ is. absurd (false≢true is)) (λ c e. sense_open point_behaviour (reading_of c.clock) (Sense.Position position) c.host)
+  event_open (Event.Reach point position) can = host_open point_behaviour (Input.Sense (Sense.Position position)) 0 (point_link site point.0) (slice_get world.points point.0) (λ c e. sense_open point_behaviour (reading_of c.clock) (Sense.Position position) c.host)
   event_open (Event.Restart node clock first) can = restarts_open clock first (node_at site node.0)
 
 module _ (laws : LawsBelow) (site : Site) (table : Table) (station : IsStation site) (once : Once site) (is_table : IsTableOf site table) where
-  pub close_none : (world : WorldState) → IsReached site table world → (happening : Event) → refusal site happening world ≡ None → Each (LeavesServerOpen site) (events_of site table happening world)
+  pub close_none : (world : WorldState) → IsReached site table world → (happening : Event) → refusal site happening world ≡ None → Each LeavesServerOpen (events_of site table happening world)
   close_none world reached = event_open laws site table station once is_table world (links_in held.has) held.has.are held.holds named
       (laws.links_keep_time_run (links site) (names_at site) held.has.events (begun (names_at site) starts_at_zero) named (laws.links_keep_time_starts (links site) (names_at site) starts_at_zero named) held.has.may)
     where

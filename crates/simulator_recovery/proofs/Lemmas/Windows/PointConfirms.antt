@@ -34,11 +34,6 @@ IsReply Opens = ⊥
 IsReply (Receives bytes connection) = ⊥
 IsReply _ = Unit {0}
 
--- a call that gives and takes nothing, for it closes its link
-abbrev pub IsClose : Call → Type 0
-IsClose (Closes why) = Unit {0}
-IsClose _ = ⊥
-
 count_more : (given more : List (List ℕ)) → length given ≤ length (given ++ more)
 count_more [] more = omega arith
 count_more (first ∷ given) more = let e = count_more given more in omega (arith, e)
@@ -122,25 +117,9 @@ module _ (laws : LawsBelow) (names : Names) (are : AreNames names) (spare owed :
       let then_good = replies_back others (called Role.Server first ends) replies.1 good
       in replies_guard others (called Role.Server first ends) replies.1 may.1 (one_event (Calls Role.Server first) ends may.0 g (λ are_in. then_good.answers) (λ are_in left. owes_then (called Role.Server first ends) (laws.every_event_keeps_time names (Calls Role.Server first) ends are g.timely may.0) then_good left)) good
 
-  close_keeps : (call : Call) (ends : Ends) → IsClose call → IsGood ends → IsGood (called Role.Server call ends)
-  unfolding called outcome end_after
-  close_keeps (Closes why) ends closes good =
-      let g = count_none ends.server.given
-      in let t = count_none ends.server.taken
-      in let a = good.answers
-      in record { answers = omega (arith, g, t, a); owes = λ connection e f. let o = good.owes connection e f in omega (arith, g, o) }
-  close_keeps Ticks ends closes good = absurd closes
-  close_keeps Opens ends closes good = absurd closes
-  close_keeps (Sends item) ends closes good = absurd closes
-  close_keeps (Receives bytes connection) ends closes good = absurd closes
-
-  -- a link that is closed first; then the next call of a step may be any
-  pub step_guards : (front : List Call) (first : Call) (others : List Call) (ends : Ends) → Each IsClose front → Each IsReply others → MayRun names (calls_at Role.Server (front ++ first ∷ others)) ends → Guards ends → IsGood ends
-      → IsGood (run (calls_at Role.Server (front ++ first ∷ others)) ends) → Guards (run (calls_at Role.Server (front ++ first ∷ others)) ends)
-  step_guards [] first others ends closes replies may g before good =
+  -- the first call of a step may be any
+  pub step_guards : (first : Call) (others : List Call) (ends : Ends) → Each IsReply others → MayRun names (calls_at Role.Server (first ∷ others)) ends → Guards ends → IsGood (run (calls_at Role.Server (first ∷ others)) ends)
+      → Guards (run (calls_at Role.Server (first ∷ others)) ends)
+  step_guards first others ends replies may g good =
       let then_good = replies_back others (called Role.Server first ends) replies good
       in replies_guard others (called Role.Server first ends) replies may.1 (one_event (Calls Role.Server first) ends may.0 g (λ are_in. then_good.answers) (λ are_in left. owes_then (called Role.Server first ends) (laws.every_event_keeps_time names (Calls Role.Server first) ends are g.timely may.0) then_good left)) good
-  step_guards (one ∷ front) first others ends closes replies may g before good =
-      let then_good = close_keeps one ends closes.0 before
-      in step_guards front first others (called Role.Server one ends) closes.1 replies may.1
-      (one_event (Calls Role.Server one) ends may.0 g (λ are_in. then_good.answers) (λ are_in left. owes_then (called Role.Server one ends) (laws.every_event_keeps_time names (Calls Role.Server one) ends are g.timely may.0) then_good left)) then_good good

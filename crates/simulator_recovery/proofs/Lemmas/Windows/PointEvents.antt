@@ -12,7 +12,7 @@ use Rattle.simulator_spec.specs.Nodes as nodes
 use Rattle.simulator_recovery.proofs.Lemmas.Ground.HostCalls as host_calls
 use Rattle.simulator_recovery.proofs.Lemmas.Ground.HostCalls.{datagram_calls, sense_calls, tick_calls}
 use Rattle.simulator_recovery.proofs.Lemmas.Ground.EndCalls.{each_both, map_both}
-use Rattle.simulator_recovery.proofs.Lemmas.Windows.PointConfirms.{Good, Guarded, IsReply, KeepsLists, LeavesServer, lists_guard, quiet_guards, replies_guard, step_guards, IsClose}
+use Rattle.simulator_recovery.proofs.Lemmas.Windows.PointConfirms.{Good, Guarded, IsReply, KeepsLists, LeavesServer, lists_guard, quiet_guards, replies_guard, step_guards}
 
 -- ---- what the events of a world are to a link
 
@@ -55,17 +55,10 @@ replies connection (hosts.Closes why ∷ others) said = (tt, replies connection 
 replies connection (hosts.Ticks ∷ others) said = absurd said.0
 replies connection (hosts.Receives bytes ∷ others) said = absurd said.0
 
-closes_first : (connection : ℕ) (calls : List hosts.LinkCall) → Each host_calls.IsFirst calls → Each IsClose (map (host_call connection) calls)
-closes_first connection [] each = tt
-closes_first connection (hosts.Closes why ∷ others) each = (tt, closes_first connection others each.1)
-closes_first connection (hosts.Sends item ∷ others) each = absurd each.0
-closes_first connection (hosts.Ticks ∷ others) each = absurd each.0
-closes_first connection (hosts.Receives bytes ∷ others) each = absurd each.0
-
--- behind a close the first may be any, and the others are replies
+-- the first may be any, and the others are replies
 data IsStep (calls : List Call) : Type 0 where
   all_reply : Each IsReply calls → IsStep calls
-  first_any : (front : List Call) (first : Call) (others : List Call) → calls ≡ front ++ first ∷ others → Each IsClose front → Each IsReply others → IsStep calls
+  first_any : (first : Call) (others : List Call) → calls ≡ first ∷ others → Each IsReply others → IsStep calls
 
 module _ {Object : Type 0} (does : Behaviour Object) (connection : ℕ) where
   step_shape : (input : HostInput) (c : ClockedControllerState Object) → IsStep (map (host_call connection) (step_of does input c).calls)
@@ -75,9 +68,7 @@ module _ {Object : Type 0} (does : Behaviour Object) (connection : ℕ) where
   step_shape (HostInput.Sense contact) c = all_reply (replies connection _ (sense_calls does (reading_of c.clock) contact c.host))
   step_shape (HostInput.Datagram bytes) c =
       let d = datagram_calls does (reading_of c.clock) bytes c.host
-      in let receives = host_call connection (hosts.Receives bytes.now)
-      in first_any (map (host_call connection) d.0) receives (map (host_call connection) d.1) (ap (map (host_call connection)) d.2.1.1 ∙ map_both (host_call connection) d.0 (hosts.Receives bytes.now ∷ d.1))
-      (closes_first connection d.0 d.2.0) (replies connection d.1 d.2.1.0)
+      in first_any (host_call connection (hosts.Receives bytes.now)) (map (host_call connection) d.0) (ap (map (host_call connection)) d.1.1) (replies connection d.0 d.1.0)
 
 -- ---- an event of a world
 
@@ -112,8 +103,8 @@ module _ (laws : LawsBelow) (site : Site) (table : Table) (named : AreLinks (lin
 
         by_shape : IsStep calls → Guarded (names_at site link) spare owed (run (calls_at Role.Server calls) (seen link network))
         by_shape (all_reply reply) = replies_guard laws (names_at site link) are spare owed calls (seen link network) reply may_calls g good_calls
-        by_shape (first_any front first others same closes reply) = subst (λ (cs : List Call). Guarded (names_at site link) spare owed (run (calls_at Role.Server cs) (seen link network))) (sym same)
-            (step_guards laws (names_at site link) are spare owed front first others (seen link network) closes reply (subst (λ (cs : List Call). MayRun (names_at site link) (calls_at Role.Server cs) (seen link network)) same may_calls) g good
+        by_shape (first_any first others same reply) = subst (λ (cs : List Call). Guarded (names_at site link) spare owed (run (calls_at Role.Server cs) (seen link network))) (sym same)
+            (step_guards laws (names_at site link) are spare owed first others (seen link network) reply (subst (λ (cs : List Call). MayRun (names_at site link) (calls_at Role.Server cs) (seen link network)) same may_calls) g
             (subst (λ (cs : List Call). Good spare owed (run (calls_at Role.Server cs) (seen link network))) same good_calls))
 
     by_host : {Object : Type 0} (does : Behaviour Object) (input : HostInput) (connection at : ℕ) (found : Option (ClockedControllerState Object)) → MayRunLinks (links site) (names_at site) (host_events does input connection at found) network

@@ -1,24 +1,22 @@
 -- A step of an interlocking at the clients of points: none of them closes its link for a full window.
 use Rattle.simulator_recovery.proofs.Words.Basics.{◌≡◌, ℕ, ◌∙◌, ◌<◌, true, List, [], ◌∷◌, ◌++◌, length, map, refl, sym, ap, subst, arith, false≢true}
-use Rattle.simulator_recovery.proofs.Words.Links.{receiving, settled, Each, Call, Links, OutboxState, window_size, LinkState, is_client, is_up, all_made, made_by, is_open}
+use Rattle.simulator_recovery.proofs.Words.Links.{receiving, settled, Each, Call, Links, OutboxState, window_size, LinkState, is_client, is_up, all_made, made_by}
 use Rattle.simulator_recovery.proofs.Words.Controllers.{Aspect, Side}
-use Rattle.simulator_recovery.proofs.Words.Interlockings.{ClientState, PeerState, is_available, LinkCall, Receives, as_call, begun, clocked, commanding, hearing, ticking, Stage, Detector, Node, Point, Signal, closing_behind}
+use Rattle.simulator_recovery.proofs.Words.Interlockings.{ClientState, PeerState, is_available, LinkCall, Receives, as_call, begun, clocked, commanding, hearing, ticking, Stage, Detector, Node, Point, Signal}
 use Rattle.simulator_recovery.proofs.Words.Stations.{Site, point_link}
 use Rattle.simulator_recovery.proofs.Words.Machine.{given_after, taken_after}
 use Rattle.simulator_recovery.proofs.Words.Recovery.{ClientHasSaid, ClientTalks, commanded, ClientStandsByCounts}
 use Rattle.simulator_spec.specs.ixl_client.declared.command.Command.{Command}
 use Rattle.simulator_spec.specs.ixl_spec.Step as ixl
 use Rattle.simulator_recovery.proofs.Lemmas.Ground.ClientBehind.{all_gave_behind, all_took_behind, available_ready, begins_here, move_leads, so_far_behind}
-use Rattle.simulator_recovery.proofs.Lemmas.Ground.ClientCalls.{IsSaid, commanding_calls, hearing_calls, ticking_calls, closing_calls, first_said}
-use Rattle.simulator_recovery.proofs.Lemmas.Talk.ClientLinks.{ClockedStands, clocked_peer, clocked_stands, up_open, closing_stands, clocked_shut}
-use Rattle.simulator_recovery.proofs.Lemmas.Talk.ClientTalk.{OfNode, SoFar, commanding_so_far, hearing_so_far, ticking_so_far, closing_so_far}
-use Rattle.simulator_recovery.proofs.Lemmas.Windows.FewItems.{FewSoFar, GivesFew, clocked_few, commanding_few, hearing_few, ticking_few, closing_few}
+use Rattle.simulator_recovery.proofs.Lemmas.Ground.ClientCalls.{IsSaid, commanding_calls, hearing_calls, ticking_calls}
+use Rattle.simulator_recovery.proofs.Lemmas.Talk.ClientLinks.{ClockedStands, clocked_peer, clocked_stands, up_open}
+use Rattle.simulator_recovery.proofs.Lemmas.Talk.ClientTalk.{OfNode, SoFar, commanding_so_far, hearing_so_far, ticking_so_far}
+use Rattle.simulator_recovery.proofs.Lemmas.Windows.FewItems.{FewSoFar, GivesFew, clocked_few, commanding_few, hearing_few, ticking_few}
 use Rattle.simulator_recovery.proofs.Lemmas.Ground.IxlSoFar.{SoFarKeeps}
 use Rattle.simulator_recovery.proofs.Lemmas.Ground.EndCalls.{map_both, map_length}
 use Rattle.simulator_recovery.proofs.Lemmas.Windows.PointTally.{IsOwn, Tally, own_tally, said_own}
 use Rattle.simulator_recovery.proofs.Lemmas.Talk.StationTalk.{client_comes, clocked_link, clocked_talks, gave, took}
-use Rattle.simulator_recovery.proofs.Lemmas.Ground.FoundClients.{by_calls, closing_identity}
-use Rattle.simulator_recovery.proofs.Lemmas.Ground.ShutLinks.{receives_same}
 
 module _ (site : Site) (now connection spare : ℕ) (network : Links) (input : ixl.Input) (few_spare : spare < window_size)
     (tallies : (place : ℕ) → place < length site.points → Tally spare (network.ends (point_link site place)).client.link (gave network (point_link site place)) (took network (point_link site place)))
@@ -51,17 +49,19 @@ module _ (site : Site) (now connection spare : ℕ) (network : Links) (input : i
     pub tally : Tally spare client.link (gave_then place calls) (took_then place calls)
 
   pub record PointSettled (place : ℕ) (client : ClientState) (calls : List LinkCall) : Type 0 where
+    pub none : calls ≡ []
     pub counts : ClockedStands now client
     pub asks : is_client client.link.identity.role ≡ true
-    pub comes : (bytes : List ℕ) → input ≡ ixl.Datagram bytes → Tally spare (receiving now bytes client.link).link (gave_then place calls) (took_then place calls ++ (receiving now bytes client.link).items)
+    pub link_is : client.link ≡ (network.ends (point_link site place)).client.link
     pub holds : PointHolds place client calls
 
   settles : (place : ℕ) (client : ClientState) → PointBefore place client → PointSettled place (clocked now client) []
   unfolding given_after taken_after
   settles place client b = record {
+    none = refl;
     counts = clocked_stands now client b.counts;
     asks = ap (λ (l : LinkState). is_client l.identity.role) link_same ∙ b.asks;
-    comes = λ bytes is. subst (λ (l : LinkState). Tally spare (receiving now bytes l).link (gave network (point_link site place)) (took network (point_link site place) ++ (receiving now bytes l).items)) (sym link_same) (received place b.there bytes is);
+    link_is = link_same;
     holds = record {
       there = b.there;
       peer = client.peer;
@@ -115,21 +115,6 @@ module _ (site : Site) (now connection spare : ℕ) (network : Links) (input : i
 
   -- ---- the parts of a step
 
-  -- a link that isn't caught up any more is closed
-  closes_point : (place : ℕ) (client : ClientState) (outbox : OutboxState) (calls : List LinkCall) → PointSettled place client calls
-      → PointSettled place (closing_behind now (begun client outbox)).client (calls ++ (closing_behind now (begun client outbox)).calls)
-  closes_point place client outbox calls s = record {
-    counts = closing_stands now (begun client outbox) s.counts;
-    asks = ap (λ identity. is_client identity.role) (closing_identity now (begun client outbox)) ∙ s.asks;
-    comes = λ bytes is. by_calls (λ (c : ClientState) (cs : List LinkCall). Tally spare (receiving now bytes c.link).link (gave_then place cs) (took_then place cs ++ (receiving now bytes c.link).items)) now client outbox calls
-        (λ behind up. let just = clocked_shut now client s.counts behind in absurd (false≢true (sym (ap (λ (l : LinkState). is_open l.phase) (receives_same now bytes _ just) ∙ just.closed) ∙ up_open _ up)))
-        (λ calm. s.comes bytes is);
-    holds = goes_on place client (closing_behind now (begun client outbox)).client calls (closing_behind now (begun client outbox)).calls s.holds
-        (closing_so_far site (Point place) s.holds.peer s.holds.of now connection client.link _ _ (begun client outbox) (here place client client calls [] s.holds))
-        (closing_few true now client outbox calls s.holds.few)
-        (own_tally now connection spare (closing_behind now (begun client outbox)).calls (said_own _ (first_said _ (closing_calls now client outbox))) client.link (gave_then place calls) (took_then place calls) s.holds.tally);
-  }
-
   -- what comes
   hears_point : (place : ℕ) (bytes : List ℕ) (client : ClientState) (outbox : OutboxState) (calls : List LinkCall) → input ≡ ixl.Datagram bytes → PointSettled place client calls
       → PointHolds place (hearing now bytes (begun client outbox)).client (calls ++ (hearing now bytes (begun client outbox)).calls)
@@ -144,7 +129,8 @@ module _ (site : Site) (now connection spare : ℕ) (network : Links) (input : i
       says = hearing_calls now bytes client outbox
 
       first : Tally spare (receiving now bytes client.link).link (gave_then place calls) (took_then place calls ++ (receiving now bytes client.link).items)
-      first = s.comes bytes comes
+      first = subst (λ (cs : List LinkCall). Tally spare (receiving now bytes client.link).link (gave_then place cs) (took_then place cs ++ (receiving now bytes client.link).items)) (sym s.none)
+          (subst (λ (l : LinkState). Tally spare (receiving now bytes l).link (gave network (point_link site place)) (took network (point_link site place) ++ (receiving now bytes l).items)) (sym s.link_is) (received place s.holds.there bytes comes))
 
   -- a client that has answered all has room
   room_at : (place : ℕ) (client : ClientState) (calls : List LinkCall) → PointHolds place client calls → is_available client.stage ≡ true → is_up client.link.phase ≡ true → length client.link.waiting < window_size
@@ -205,12 +191,6 @@ module _ (site : Site) (now connection spare : ℕ) (network : Links) (input : i
   weaker_at (Signal place) client calls s = tt
   weaker_at (Detector place) client calls s = tt
 
-  closes_at : (node : Node) (client : ClientState) (outbox : OutboxState) (calls : List LinkCall) → SettledAt node client calls
-      → SettledAt node (closing_behind now (begun client outbox)).client (calls ++ (closing_behind now (begun client outbox)).calls)
-  closes_at (Point place) client outbox calls s = closes_point place client outbox calls s
-  closes_at (Signal place) client outbox calls s = tt
-  closes_at (Detector place) client outbox calls s = tt
-
   hears_at : (node : Node) (bytes : List ℕ) (client : ClientState) (outbox : OutboxState) (calls : List LinkCall) → Comes bytes → SettledAt node client calls → HoldsAt node (hearing now bytes (begun client outbox)).client (calls ++ (hearing now bytes (begun client outbox)).calls)
   hears_at (Point place) bytes client outbox calls comes s = hears_point place bytes client outbox calls comes s
   hears_at (Signal place) bytes client outbox calls comes s = tt
@@ -225,7 +205,6 @@ module _ (site : Site) (now connection spare : ℕ) (network : Links) (input : i
   points_keep = record {
     clock = clock_at;
     weaker = weaker_at;
-    closes = closes_at;
     hears = hears_at;
     aspects = λ place aspect client outbox calls gives ready h. tt;
     moves = moves_point;

@@ -174,7 +174,7 @@ module _ (laws : LawsBelow) (site : Site) (table : Table) (station : IsStation s
         was : EachClient (Before laws site table is_table input connection world network named whole timely are_of comes may g.stands.talking.stands.clients g.stands.talking.matching.clients g.stands.talking.talk) world.interlocking.ixl
         was = before laws site table is_table input connection world network named whole timely are_of comes may g.stands.talking.stands.clients g.stands.talking.matching.clients g.stands.talking.talk
 
-    held : All HoldsStep (interlocking_step site table input world.interlocking)
+    held : All now AnyStep ComesStep BeforeStep SettledStep HoldsStep (points_keep site now connection 6 network input few_spare tallies received) HoldsStep (interlocking_step site table input world.interlocking)
     held = step_held now AnyStep ComesStep BeforeStep SettledStep HoldsStep (points_keep site now connection 6 network input few_spare tallies received) table (λ signal. tt) (λ number row e. tt) (key_of site) input (begun_with world.interlocking.ixl empty_outbox) (λ bytes e. e) refl all_before
 
     step_few : EachClient FewAt (interlocking_step site table input world.interlocking).ixl

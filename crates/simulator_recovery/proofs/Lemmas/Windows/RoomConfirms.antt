@@ -3,7 +3,7 @@ use Rattle.simulator_recovery.proofs.Words.Basics.{◌≡◌, ℕ, ◌∙◌, �
 use Rattle.simulator_recovery.proofs.Words.Links.{acceptance, closing_by, opening, opens, sending_item, ticking, deadline, open_state, settled, state_at, Call, Closes, EndState, Opens, Outcome, Receives, Sends, Ticks, end_after, kept, newer, outcome, reading_of, is_down, may_open, requesting, connection_limit, beating, closed, closing, entered, giving, is_told, limited, sending, silent, telling, LinkState, is_client, is_open, is_up, Phase, Reason, Heartbeat, AreIn, AwaitsAnswers, ClientHasLeft, ClientOwes, FewOfServerLeft, FewOfServerWait, ServerConfirming, Each, end_later, end_restarted, Calls, Elsewhere, Event, Loses, May, MayRun, Passes, Restarts, happened, run, Timely, AreNames, Names, Ordered, Ends, called, later, lost, restarted, Role}
 use Rattle.simulator_recovery.proofs.Words.Recovery.{LawsBelow}
 use Rattle.simulator_recovery.proofs.Lemmas.Ground.LinkCounts.{settled_closed, settled_open}
-use Rattle.simulator_recovery.proofs.Lemmas.Windows.PointConfirms.{count_none, IsReply, KeepsLists, IsClose}
+use Rattle.simulator_recovery.proofs.Lemmas.Windows.PointConfirms.{count_none, IsReply, KeepsLists}
 
 -- ---- a client that was in a connection at some reading of its clock opens no other at the same reading: it is still in it, or has closed at that reading, and is quiet
 
@@ -368,31 +368,10 @@ module _ (laws : LawsBelow) (names : Names) (are : AreNames names) (spare owed :
       back : RecentClient (happened first ends) → IsGood (happened first ends)
       back r = good_back (happened first ends) (run others (happened first ends)) (own_goes others (happened first ends) own.1 r) good
 
-  close_keeps : (event : Event) (ends : Ends) → AtClient IsClose event → IsGood ends → IsGood (happened event ends)
-  unfolding called outcome end_after
-  close_keeps (Calls Role.Client (Closes why)) ends closes good =
-      let g = count_none ends.client.given
-      in let t = count_none ends.client.taken
-      in let a = good.answers
-      in record { answers = omega (arith, g, t, a); owes = λ connection e f. let o = good.owes connection e f in omega (arith, g, t, o) }
-  close_keeps (Calls Role.Client Ticks) ends closes good = absurd closes
-  close_keeps (Calls Role.Client Opens) ends closes good = absurd closes
-  close_keeps (Calls Role.Client (Sends item)) ends closes good = absurd closes
-  close_keeps (Calls Role.Client (Receives bytes connection)) ends closes good = absurd closes
-  close_keeps (Calls Role.Server call) ends closes good = absurd closes
-  close_keeps (Passes elapsed of_client of_server) ends closes good = absurd closes
-  close_keeps (Loses bytes) ends closes good = absurd closes
-  close_keeps (Restarts who clock first) ends closes good = absurd closes
-  close_keeps (Elsewhere count) ends closes good = record { answers = good.answers; owes = good.owes }
-
-  -- Behind what is closed first, the next event of a step may be any, where the client opens nothing after it.
-  pub any_guards : (front : List Event) (first : Event) (others : List Event) (ends : Ends) → Each (AtClient IsClose) front → Each (AtClient IsReply) others → MayRun names (front ++ first ∷ others) ends → Guards ends → IsGood ends
-      → IsGood (run (front ++ first ∷ others) ends) → Guards (run (front ++ first ∷ others) ends)
-  any_guards [] first others ends closes said may g before good =
+  -- the first event of a step may be any, where the client opens nothing after it
+  pub any_guards : (first : Event) (others : List Event) (ends : Ends) → Each (AtClient IsReply) others → MayRun names (first ∷ others) ends → Guards ends
+      → IsGood (run (first ∷ others) ends) → Guards (run (first ∷ others) ends)
+  any_guards first others ends said may g good =
       let then_good = good_back (happened first ends) (run others (happened first ends)) (said_goes others (happened first ends) said) good
       in own_guards others (happened first ends) (own_of_said others said) may.1 (one_event first ends may.0 g (λ are_in. then_good.answers)
       (λ are_in left. owes_then (happened first ends) (laws.every_event_keeps_time names first ends are g.timely may.0) then_good left)) good
-  any_guards (one ∷ front) first others ends closes said may g before good =
-      let then_good = close_keeps one ends closes.0 before
-      in any_guards front first others (happened one ends) closes.1 said may.1
-      (one_event one ends may.0 g (λ are_in. then_good.answers) (λ are_in left. owes_then (happened one ends) (laws.every_event_keeps_time names one ends are g.timely may.0) then_good left)) then_good good

@@ -62,9 +62,9 @@ module _ (laws : LawsBelow) (site : Site) (table : Table) (named : AreLinks (lin
 
         by_shape : StepsOn (run_on link events network) → ServerGuarded (names_at site link) spare owed (run (run_on link events network) (seen link network))
         by_shape (takes_none own) = own_guards laws (names_at site link) are spare owed (run_on link events network) (seen link network) own (may_at events may) g good_run
-        by_shape (comes_first front first others same closes said) = subst (λ (list : List LinkEvent). ServerGuarded (names_at site link) spare owed (run list (seen link network))) (sym same)
-            (any_guards laws (names_at site link) are spare owed front first others (seen link network) closes said
-            (subst (λ (list : List LinkEvent). MayRun (names_at site link) list (seen link network)) same (may_at events may)) g good
+        by_shape (comes_first first others same said) = subst (λ (list : List LinkEvent). ServerGuarded (names_at site link) spare owed (run list (seen link network))) (sym same)
+            (any_guards laws (names_at site link) are spare owed first others (seen link network) said
+            (subst (λ (list : List LinkEvent). MayRun (names_at site link) list (seen link network)) same (may_at events may)) g
             (subst (λ (list : List LinkEvent). Awaits spare owed (run list (seen link network))) same good_run))
 
     by_interlocking : (world : WorldState) (input : ixl.Input) (connection : ℕ) → Behind (interlocking_events site table input connection world.interlocking)

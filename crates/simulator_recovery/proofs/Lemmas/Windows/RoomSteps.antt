@@ -1,19 +1,16 @@
 -- What a step of the interlocking calls its end of one link to: it receives what comes first, and then says something at most; or else
 -- nothing is taken.
-use Rattle.simulator_recovery.proofs.Words.Basics.{◌≡◌, ◌⊎◌, inl, inr, ℕ, zero, suc, ◌∙◌, ◌==◌, Bool, true, false, List, [], ◌∷◌, ◌++◌, length, Option, Some, None, slice_get, if◌then◌else◌, refl, sym, ap, subst, none-some, append_assoc}
-use Rattle.simulator_recovery.proofs.Words.Links.{Each, Call, reading_of, Calls, Elsewhere, Event, CallsOn, Links, LinksEvent, events_on, happened_to, run_on, seen, sent_by, Role, reading, Passes, Loses, Restarts}
-use Rattle.simulator_recovery.proofs.Words.Interlockings.{Closes, LinkCall, Opens, Receives, Sends, Ticks, as_call, IxlState, KnownDetectorState, KnownPointState, KnownSignalState, Commands, Datagram, Input, Tick, addressed, detector_hearing, given, known_point_hearing, known_signal_hearing, node_hearing, Detector, Node, Point, Signal, StepSoFar, begun_with, empty_outbox, with_one, Table, Command}
+use Rattle.simulator_recovery.proofs.Words.Basics.{◌≡◌, ◌⊎◌, inl, inr, ℕ, zero, suc, ◌∙◌, ◌==◌, Bool, true, false, List, [], ◌∷◌, ◌++◌, length, Option, Some, None, slice_get, if◌then◌else◌, refl, sym, ap, subst, none-some}
+use Rattle.simulator_recovery.proofs.Words.Links.{Each, Call, reading_of, Calls, Elsewhere, Event, CallsOn, Links, LinksEvent, events_on, happened_to, run_on, seen, sent_by, Role, reading}
+use Rattle.simulator_recovery.proofs.Words.Interlockings.{Closes, LinkCall, Opens, Receives, Sends, Ticks, as_call, IxlState, KnownDetectorState, KnownPointState, KnownSignalState, Commands, Datagram, Input, Tick, addressed, all_clocked, detector_hearing, given, known_point_hearing, known_signal_hearing, node_hearing, Detector, Node, Point, Signal, StepSoFar, begun_with, empty_outbox, with_one, Table, Command}
 use Rattle.simulator_recovery.proofs.Words.Stations.{Site, key_of, ClockedInterlockingState, link_at, interlocking_events}
-use Rattle.simulator_spec.specs.rasta_core.Ends as calls
-use Rattle.simulator_recovery.proofs.Lemmas.Ground.ClientCalls.{IsSaid, IsFirst}
+use Rattle.simulator_recovery.proofs.Lemmas.Ground.ClientCalls.{IsSaid}
 use Rattle.simulator_recovery.proofs.Lemmas.Ground.EndCalls.{each_both}
 use Rattle.simulator_recovery.proofs.Lemmas.Ground.NodeCalls.{at_client}
-use Rattle.simulator_recovery.proofs.Lemmas.Windows.PointConfirms.{IsReply, IsClose}
+use Rattle.simulator_recovery.proofs.Lemmas.Windows.PointConfirms.{IsReply}
 use Rattle.simulator_recovery.proofs.Lemmas.Windows.PointTally.{IsOwn}
 use Rattle.simulator_recovery.proofs.Lemmas.Windows.RoomConfirms.{AtClient, TakesNone}
-use Rattle.simulator_recovery.proofs.Lemmas.Ground.Steps.{IsSaidAt, IsThere, all_ticks, command_says, datagram_hears, others_say, tick_of, tick_ticks, ticks_of, IsFirstAt}
-use Rattle.simulator_recovery.proofs.Lemmas.Ground.DueShapes.{found_in}
-use Rattle.simulator_recovery.proofs.Lemmas.Ground.FoundIxl.{found_is}
+use Rattle.simulator_recovery.proofs.Lemmas.Ground.Steps.{IsSaidAt, IsThere, all_ticks, command_says, datagram_hears, others_say, tick_of, tick_ticks, ticks_of}
 
 -- ---- one call after another
 
@@ -31,13 +28,6 @@ takes_none_of connection (Closes why) own = tt
 takes_none_of connection (Sends item) own = tt
 takes_none_of connection (Receives bytes) own = absurd own
 
-close_of : (connection : ℕ) (call : LinkCall) → IsFirst call → IsClose (as_call connection call)
-close_of connection Opens first = absurd first
-close_of connection Ticks first = absurd first
-close_of connection (Closes why) first = tt
-close_of connection (Sends item) first = absurd first
-close_of connection (Receives bytes) first = absurd first
-
 abbrev IsOwnAt : Node × LinkCall → Type 0
 IsOwnAt made = IsOwn made.1
 
@@ -54,23 +44,19 @@ module _ (site : Site) (connection link : ℕ) where
   abbrev on_link : List (Node × LinkCall) → Links → List Event
   on_link made network = run_on link (at_client site connection made) network
 
-  one_there : (Is : Call → Type 0) (Was : LinkCall → Type 0) → ((call : LinkCall) → Was call → Is (as_call connection call)) → (one : Node × LinkCall) → Was one.1 → (network : Links)
-      → Each (AtClient Is) (events_on link (CallsOn (link_at site one.0) Role.Client (as_call connection one.1)) network)
-  one_there Is Was turn one was network = by_link (link == link_at site one.0)
-    where
-      by_link : (b : Bool)
-          → Each (AtClient Is)
-          (if b then Calls Role.Client (as_call connection one.1) ∷ [] else Elsewhere (length (sent_by Role.Client (as_call connection one.1) (seen (link_at site one.0) network))) ∷ [])
-      by_link true = (turn one.1 was, tt)
-      by_link false = (tt, tt)
-
   calls_there : (Is : Call → Type 0) (Was : LinkCall → Type 0) → ((call : LinkCall) → Was call → Is (as_call connection call)) → (made : List (Node × LinkCall))
       → Each (λ (one : Node × LinkCall). Was one.1) made → (network : Links)
       → Each (AtClient Is) (on_link made network)
   calls_there Is Was turn [] each network = tt
   calls_there Is Was turn (first ∷ others) each network =
-      each_both (AtClient Is) (events_on link (CallsOn (link_at site first.0) Role.Client (as_call connection first.1)) network) _ (one_there Is Was turn first each.0 network)
+      each_both (AtClient Is) (events_on link (CallsOn (link_at site first.0) Role.Client (as_call connection first.1)) network) _ (by_link (link == link_at site first.0))
       (calls_there Is Was turn others each.1 (happened_to (CallsOn (link_at site first.0) Role.Client (as_call connection first.1)) network))
+    where
+      by_link : (b : Bool)
+          → Each (AtClient Is)
+          (if b then Calls Role.Client (as_call connection first.1) ∷ [] else Elsewhere (length (sent_by Role.Client (as_call connection first.1) (seen (link_at site first.0) network))) ∷ [])
+      by_link true = (turn first.1 each.0, tt)
+      by_link false = (tt, tt)
 
   said_there : (made : List (Node × LinkCall)) → Each IsSaidAt made → (network : Links) → Each (AtClient IsReply) (on_link made network)
   said_there = calls_there IsReply IsSaid (reply_of connection)
@@ -78,29 +64,10 @@ module _ (site : Site) (connection link : ℕ) where
   own_there : (made : List (Node × LinkCall)) → Each IsOwnAt made → (network : Links) → Each (AtClient TakesNone) (on_link made network)
   own_there = calls_there TakesNone IsOwn (takes_none_of connection)
 
--- A step at one link: nothing is taken, or behind what is closed and the first event something is said at most.
+-- A step at one link: nothing is taken, or something is said at most after the first event.
 pub data StepsOn (events : List Event) : Type 0 where
   takes_none : Each (AtClient TakesNone) events → StepsOn events
-  comes_first : (front : List Event) (first : Event) (others : List Event) → events ≡ front ++ first ∷ others → Each (AtClient IsClose) front → Each (AtClient IsReply) others → StepsOn events
-
-takes_none_in_closes : (events : List Event) → Each (AtClient IsClose) events → Each (AtClient TakesNone) events
-takes_none_in_closes [] each = tt
-takes_none_in_closes (Calls Role.Client (calls.Closes why) ∷ others) each = (tt, takes_none_in_closes others each.1)
-takes_none_in_closes (Calls Role.Client calls.Ticks ∷ others) each = absurd each.0
-takes_none_in_closes (Calls Role.Client calls.Opens ∷ others) each = absurd each.0
-takes_none_in_closes (Calls Role.Client (calls.Sends item) ∷ others) each = absurd each.0
-takes_none_in_closes (Calls Role.Client (calls.Receives bytes connection) ∷ others) each = absurd each.0
-takes_none_in_closes (Calls Role.Server call ∷ others) each = absurd each.0
-takes_none_in_closes (Passes elapsed of_client of_server ∷ others) each = absurd each.0
-takes_none_in_closes (Loses bytes ∷ others) each = absurd each.0
-takes_none_in_closes (Restarts who clock first ∷ others) each = absurd each.0
-takes_none_in_closes (Elsewhere count ∷ others) each = (tt, takes_none_in_closes others each.1)
-
--- what is closed in front of it
-in_front : (events rest : List Event) → Each (AtClient IsClose) events → StepsOn rest → StepsOn (events ++ rest)
-in_front events rest closes (takes_none own) = takes_none (each_both (AtClient TakesNone) events rest (takes_none_in_closes events closes) own)
-in_front events rest closes (comes_first front first others same each said) =
-    comes_first (events ++ front) first others (ap (λ (list : List Event). events ++ list) same ∙ sym (append_assoc events front (first ∷ others))) (each_both (AtClient IsClose) events front closes each) said
+  comes_first : (first : Event) (others : List Event) → events ≡ first ∷ others → Each (AtClient IsReply) others → StepsOn events
 
 -- what is done with one, or with none
 one_none : {A : Type 0} (found : Option A) (does : A → StepSoFar → StepSoFar) (part : StepSoFar) → found ≡ None → with_one found does part ≡ part
@@ -158,8 +125,8 @@ module _ (site : Site) (table : Table) (connection link : ℕ) (station : Clocke
   abbrev before : StepSoFar
   before = begun_with station.ixl empty_outbox
 
-  abbrev found_before : StepSoFar
-  found_before = found_in now before
+  abbrev clocked_before : StepSoFar
+  clocked_before = record before { ixl = all_clocked now station.ixl }
 
   abbrev On : Input → Type 0
   On input = StepsOn (run_on link (interlocking_events site table input connection station) network)
@@ -181,47 +148,43 @@ module _ (site : Site) (table : Table) (connection link : ℕ) (station : Clocke
   command_steps : (command : Command) → On (Commands command)
   command_steps command = let says = command_says now table (key_of site) before command in says_alone (Commands command) says.more says.each (ap (at_client site connection) says.are)
 
-  none_heard : (bytes : List ℕ) → given now table (key_of site) (Datagram bytes) found_before ≡ found_before → On (Datagram bytes)
+  none_heard : (bytes : List ℕ) → given now table (key_of site) (Datagram bytes) clocked_before ≡ clocked_before → On (Datagram bytes)
   none_heard bytes none = let says = others_say now table (key_of site) before bytes none in says_alone (Datagram bytes) says.more says.each (ap (at_client site connection) says.are)
 
-  -- what comes to a client is taken first, behind what is closed
-  first_of : (bytes : List ℕ) (node : Node) (first more : List (Node × LinkCall)) → Each IsFirstAt first → Each IsSaidAt more → (at : Links) → StepsOn (run_on link (at_client site connection (first ++ (node, Receives bytes) ∷ more)) at)
-  first_of bytes node [] more closes each at = choose (link == link_at site node)
+  -- what comes to a client is taken first
+  first_of : (bytes : List ℕ) (node : Node) (more : List (Node × LinkCall)) → Each IsSaidAt more → StepsOn (run_on link (at_client site connection ((node, Receives bytes) ∷ more)) network)
+  first_of bytes node more each = choose (link == link_at site node)
     where
       then_network : Links
-      then_network = happened_to (CallsOn (link_at site node) Role.Client (as_call connection (Receives bytes))) at
+      then_network = happened_to (CallsOn (link_at site node) Role.Client (as_call connection (Receives bytes))) network
 
       rest : List Event
       rest = run_on link (at_client site connection more) then_network
 
       elsewhere : Event
-      elsewhere = Elsewhere (length (sent_by Role.Client (as_call connection (Receives bytes)) (seen (link_at site node) at)))
+      elsewhere = Elsewhere (length (sent_by Role.Client (as_call connection (Receives bytes)) (seen (link_at site node) network)))
 
       choose : (b : Bool) → StepsOn ((if b then Calls Role.Client (as_call connection (Receives bytes)) ∷ [] else elsewhere ∷ []) ++ rest)
-      choose true = comes_first [] (Calls Role.Client (as_call connection (Receives bytes))) rest refl tt (said_there site connection link more each then_network)
-      choose false = comes_first [] elsewhere rest refl tt (said_there site connection link more each then_network)
-  first_of bytes node (one ∷ first) more closes each at =
-      in_front (events_on link (CallsOn (link_at site one.0) Role.Client (as_call connection one.1)) at) _ (one_there site connection link IsClose IsFirst (close_of connection) one closes.0 at)
-      (first_of bytes node first more closes.1 each (happened_to (CallsOn (link_at site one.0) Role.Client (as_call connection one.1)) at))
+      choose true = comes_first (Calls Role.Client (as_call connection (Receives bytes))) rest refl (said_there site connection link more each then_network)
+      choose false = comes_first elsewhere rest refl (said_there site connection link more each then_network)
 
   datagram_steps : (bytes : List ℕ) → On (Datagram bytes)
   unfolding given
-  datagram_steps bytes = by_found (addressed (reading (key_of site) bytes) found_before.ixl) refl
+  datagram_steps bytes = by_found (addressed (reading (key_of site) bytes) (all_clocked now station.ixl)) refl
     where
       heard : Option Node
-      heard = addressed (reading (key_of site) bytes) found_before.ixl
+      heard = addressed (reading (key_of site) bytes) (all_clocked now station.ixl)
 
-      by_there : (node : Node) → heard ≡ Some node → IsThere now table node found_before.ixl ⊎ (node_hearing now table bytes node found_before ≡ found_before)
+      by_there : (node : Node) → heard ≡ Some node → IsThere now table node (all_clocked now station.ixl) ⊎ (node_hearing now table bytes node clocked_before ≡ clocked_before)
           → On (Datagram bytes)
-      by_there node e (inr none) = none_heard bytes (one_some heard node (node_hearing now table bytes) found_before e ∙ none)
+      by_there node e (inr none) = none_heard bytes (one_some heard node (node_hearing now table bytes) clocked_before e ∙ none)
       by_there node e (inl there) =
-          let same = found_is now before
-          in let made = datagram_hears now table (key_of site) before bytes node (ap (addressed (reading (key_of site) bytes)) (sym same) ∙ e) (subst (IsThere now table node) same there)
-          in of_calls (Datagram bytes) (made.0 ++ (node, Receives bytes) ∷ made.1) (ap (at_client site connection) made.2.1.1) (first_of bytes node made.0 made.1 made.2.0 made.2.1.0 network)
+          let made = datagram_hears now table (key_of site) before bytes node e there
+          in of_calls (Datagram bytes) ((node, Receives bytes) ∷ made.0) (ap (at_client site connection) made.1.1) (first_of bytes node made.0 made.1.0)
 
       by_found : (found : Option Node) → heard ≡ found → On (Datagram bytes)
-      by_found None e = none_heard bytes (one_none heard (node_hearing now table bytes) found_before e)
-      by_found (Some node) e = by_there node e (there_or_none now table bytes node found_before)
+      by_found None e = none_heard bytes (one_none heard (node_hearing now table bytes) clocked_before e)
+      by_found (Some node) e = by_there node e (there_or_none now table bytes node clocked_before)
 
   pub step_on : (input : Input) → On input
   step_on Tick = tick_steps

@@ -6,13 +6,13 @@ use Rattle.simulator_recovery.proofs.Words.Interlockings.{ClientState, is_outsid
 use Rattle.simulator_recovery.proofs.Words.Stations.{Site, Signal as SignalEntry, Beginning, new_ixl, new_known_signal_of, new_route_of, interlocking_stepped, interlocking_step, key_of, ClockedInterlockingState, WorldState, IsReached, Once, IsStation, Event, names_at, starts_at_zero, links, refusal, IsNodeOf, link_at, events_of, IsStanding, links_in, HasClients}
 use Rattle.simulator_recovery.proofs.Words.Recovery.{FillsNoWindowOn, LawsBelow}
 use Rattle.simulator_spec.specs.ixl_spec.Step as ixl
-use Rattle.simulator_recovery.proofs.Lemmas.Ground.AspectCalls.{CallsKeep, DoneBy, IsCommanded, hears, noted_at, ticks, step_held, closes}
+use Rattle.simulator_recovery.proofs.Lemmas.Ground.AspectCalls.{CallsKeep, DoneBy, IsCommanded, hears, noted_at, ticks, step_held}
 use Rattle.simulator_recovery.proofs.Lemmas.Talk.ClientLinks.{up_open}
 use Rattle.simulator_recovery.proofs.Lemmas.Windows.FewItems.{GivenBy, GivesFew, LeavesWindow, few_wait, new_client_few}
 use Rattle.simulator_recovery.proofs.Lemmas.Ground.IxlClients.{changed_at, mapped_at, signal_client, signal_is}
 use Rattle.simulator_recovery.proofs.Lemmas.Ground.IxlSoFar.{at_itself, at_node, at_other, set_at}
 use Rattle.simulator_recovery.proofs.Lemmas.Ground.EndCalls.{each_both}
-use Rattle.simulator_recovery.proofs.Lemmas.Ground.SignalParts.{AtRoute, GoesOn, IsGiven, IsOver, IsQuiet, hears as hears_on, new_signal, ticks as ticks_on, closes as closes_on}
+use Rattle.simulator_recovery.proofs.Lemmas.Ground.SignalParts.{AtRoute, GoesOn, IsGiven, IsOver, IsQuiet, hears as hears_on, new_signal, ticks as ticks_on}
 use Rattle.simulator_recovery.proofs.Lemmas.Lamps.StopsGiven.{StopsStand, changed_here, is_equal, proceeding_set, stand_keep}
 use Rattle.simulator_recovery.proofs.Lemmas.Windows.WaitingItems.{IsGivenOne, Went, clock_went, commanded_is, done_leaves, done_went, ready_inside}
 use Rattle.simulator_recovery.proofs.Lemmas.Ground.IxlAlways.{always}
@@ -103,9 +103,9 @@ module _ (known : KnownSignalState) (client : ClientState) (went : Went known.cl
 
   went_few : (indicated : Option Aspect) → FewWait (known_signal_after known.aspect known.number indicated client)
   went_few indicated = known_after known.aspect known.number indicated client (went.few true few.gives) (λ inside. record {
-    up = went.up few.up inside;
+    up = went.up inside;
     none = λ e. went.few false (few.none e);
-    number_is = λ a e. few.number a e ∙ sym (went.none few.gives (given_ready known a ready e) (went.up few.up inside)).given;
+    number_is = λ a e. few.number a e ∙ sym (went.none few.gives (given_ready known a ready e) (went.up inside)).given;
     four = went_at_most 4 (omega arith) few.four;
   })
 
@@ -195,7 +195,6 @@ module _ (now : ℕ) (table : Table) where
   Stand = WindowsStand table
 
   goes_on : (old : ClientState) (done : ClientSoFar) → DoneBy now old done → GoesOn now old done.client
-  goes_on old done (closes outbox is) = closes_on outbox (ap (λ (d : ClientSoFar). d.client) is)
   goes_on old done (hears bytes outbox is) = hears_on bytes outbox (ap (λ (d : ClientSoFar). d.client) is)
   goes_on old done (ticks outbox is) = ticks_on outbox (ap (λ (d : ClientSoFar). d.client) is)
 

@@ -1,8 +1,8 @@
 -- No event of a station closes a client's link but for its own full window.
-use Rattle.simulator_recovery.proofs.Words.Basics.{◌≡◌, ◌⊎◌, inl, inr, ℕ, ◌+◌, ◌<◌, ◌≤◌, ◌∙◌, ◌&&◌, nat_le, Bool, true, false, List, [], ◌∷◌, ◌++◌, length, map, Option, Some, None, slice_get, if◌then◌else◌, refl, sym, ap, subst, arith, IsTrue}
-use Rattle.simulator_recovery.proofs.Words.Links.{receiving, Each, AreTimely, Call, reading_of, Calls, Elsewhere, May, MayRun, AreLinks, CallsOn, Links, LinksEvent, MayRunLinks, begun as begun_links, seen, sent_by, calls_of, restarts_of, OutboxState, LinkState, is_client, is_open, is_up, Role, Reason}
+use Rattle.simulator_recovery.proofs.Words.Basics.{◌≡◌, ◌⊎◌, inl, inr, ℕ, ◌+◌, ◌<◌, ◌≤◌, ◌∙◌, Bool, true, false, List, [], ◌∷◌, ◌++◌, length, map, Option, Some, None, slice_get, if◌then◌else◌, refl, sym, ap, subst, arith, IsTrue}
+use Rattle.simulator_recovery.proofs.Words.Links.{receiving, Each, AreTimely, Call, reading_of, Calls, Elsewhere, May, MayRun, AreLinks, CallsOn, Links, LinksEvent, MayRunLinks, begun as begun_links, seen, sent_by, calls_of, restarts_of, OutboxState, LinkState, is_client, is_open, is_up, Role}
 use Rattle.simulator_recovery.proofs.Words.Controllers.{as_call as host_call, Behaviour, Input as HostInput, Sense, Aspect, point_behaviour, signal_behaviour, detection_behaviour}
-use Rattle.simulator_recovery.proofs.Words.Interlockings.{IsTableOf, ClientState, PeerState, Closes, LinkCall, Opens, Receives, Sends, Ticks, as_call, begun, reports_changes, clocked, commanding, hearing, ticking, Stage, Detector, Node, Point, Signal, StepSoFar, begun_with, empty_outbox, Table, closing_behind}
+use Rattle.simulator_recovery.proofs.Words.Interlockings.{IsTableOf, ClientState, PeerState, Closes, LinkCall, Opens, Receives, Sends, Ticks, as_call, begun, reports_changes, clocked, commanding, hearing, ticking, Stage, Detector, Node, Point, Signal, StepSoFar, begun_with, empty_outbox, Table}
 use Rattle.simulator_recovery.proofs.Words.Stations.{Site, Once, IsStation, Event, NodeId, step_of, coming, interlocking_step, AreLinksOf, names_at, starts_at_zero, connection_of, copy_of, detector_link, key_of, links, node_at, partners, point_link, refusal, ClockedControllerState, WorldState, AreOfNodes, IsNodeOf, link_at, node_call, anew_events, contact_events, delivery_events, events_of, host_events, interlocking_events, numbers_below, restart_events, tick_events, links_in, MayComeWith, IsReached}
 use Rattle.simulator_recovery.proofs.Words.Recovery.{ClientHasSaid, ClientTalks, commanded, LeavesClientOpen, EachClient, GivesAtMostTwoMore, LawsBelow}
 use Rattle.simulator_spec.specs.rasta_core.Ends as ends
@@ -13,7 +13,7 @@ use Rattle.simulator_recovery.proofs.Lemmas.Ground.ClientItem.{partners_length}
 use Rattle.simulator_recovery.proofs.Lemmas.Talk.AlwaysExpected.{EachIsExpected, Stands, begun_of, detector_changes, each_detector, each_point, each_signal, gives_no_more, signal_changes, stands_first, stands_on}
 use Rattle.simulator_recovery.proofs.Lemmas.Ground.SectionsEvents.{CanBe, HasHeld, always_held}
 use Rattle.simulator_recovery.proofs.Lemmas.Windows.ClientCloses.{ByWindow, ComesNext, IsFew, commanding_closes_none, hearing_closes_none, ticking_closes_none}
-use Rattle.simulator_recovery.proofs.Lemmas.Talk.ClientLinks.{ClockedStands, clocked_peer, clocked_stands, closing_stands, clocked_shut}
+use Rattle.simulator_recovery.proofs.Lemmas.Talk.ClientLinks.{ClockedStands, clocked_peer, clocked_stands}
 use Rattle.simulator_recovery.proofs.Lemmas.Ground.ComesWith.{none_comes, one_comes}
 use Rattle.simulator_recovery.proofs.Lemmas.Ground.IxlSoFar.{All, SoFarKeeps, at_node, is_itself, is_node, same_place, step_held}
 use Rattle.simulator_recovery.proofs.Lemmas.Ground.EndCalls.{at_place, each_both, map_length}
@@ -21,9 +21,6 @@ use Rattle.simulator_recovery.proofs.Lemmas.Links.NextItems.{GoesOnInOne, of_cli
 use Rattle.simulator_recovery.proofs.Lemmas.Talk.StationTalk as talk
 use Rattle.simulator_recovery.proofs.Lemmas.Talk.StationTalk.{client_comes, clocked_link, clocked_talks}
 use Rattle.simulator_recovery.proofs.Lemmas.Ground.Steps.{Stays, step_stays}
-use Rattle.simulator_recovery.proofs.Lemmas.Ground.FoundClients.{by_calls, closing_peer}
-use Rattle.simulator_recovery.proofs.Lemmas.Ground.ShutLinks.{receives_same}
-use Rattle.simulator_recovery.proofs.Lemmas.Ground.DueTests.{first_true}
 
 -- ---- the calls at each node are all calls
 
@@ -91,10 +88,10 @@ module _ (laws : LawsBelow) (site : Site) (table : Table) (station : IsStation s
         is : IsBefore node client
         expected : EachIsExpected client.peer (seen (link_at site node) network)
         hears : HearsAt node client.peer
-        strict : client.peer.is_strict ≡ site.station.trains
 
       -- with its link settled
-      record Here (node : Node) (client : ClientState) : Type 0 where
+      record Settled (node : Node) (client : ClientState) (calls : List LinkCall) : Type 0 where
+        none : calls ≡ []
         there : IsNodeOf site node
         counts : ClockedStands now client
         asks : is_client client.link.identity.role ≡ true
@@ -103,8 +100,13 @@ module _ (laws : LawsBelow) (site : Site) (table : Table) (station : IsStation s
         expected : EachIsExpected client.peer (seen (link_at site node) network)
         hears : HearsAt node client.peer
 
-      here_of : (node : Node) (client : ClientState) → Before node client → Here node (clocked now client)
-      here_of node client b = record {
+      -- and after each part
+      abbrev Holds : Node → ClientState → List LinkCall → Type 0
+      Holds node client calls = Each ByWindow calls
+
+      settles : (node : Node) (client : ClientState) → Before node client → Settled node (clocked now client) []
+      settles node client b = record {
+        none = refl;
         there = b.is.there;
         counts = clocked_stands now client b.is.counts;
         asks = ap (λ (l : LinkState). is_client l.identity.role) (clocked_link now client ∙ b.is.link_is) ∙ b.is.asks;
@@ -116,7 +118,7 @@ module _ (laws : LawsBelow) (site : Site) (table : Table) (station : IsStation s
 
       -- ---- a datagram
 
-      module _ (node : Node) (bytes : List ℕ) (is_input : input ≡ ixl.Datagram bytes) (client : ClientState) (c : Here node client) where
+      module _ (node : Node) (bytes : List ℕ) (is_input : input ≡ ixl.Datagram bytes) (client : ClientState) (calls : List LinkCall) (c : Settled node client calls) where
         abbrev here : ℕ
         here = link_at site node
 
@@ -175,55 +177,8 @@ module _ (laws : LawsBelow) (site : Site) (table : Table) (station : IsStation s
             choose was (inr up) (inl none) = inl none
             choose was (inr up) (inr on) = inr (next_at was up on)
 
-      -- ---- between the parts of the step
-
-      -- a call that closes the link for its own full window at most, or to keep trains apart
-      abbrev Fine : LinkCall → Type 0
-      Fine (Closes why) = (why ≡ Reason.Window) ⊎ ((site.station.trains ≡ true) × (why ≡ Reason.User))
-      Fine _ = Unit {0}
-
-      all_fine : (calls : List LinkCall) → Each ByWindow calls → Each Fine calls
-      all_fine [] each = tt
-      all_fine (Opens ∷ others) each = (tt, all_fine others each.1)
-      all_fine (Ticks ∷ others) each = (tt, all_fine others each.1)
-      all_fine (Closes why ∷ others) each = (inl each.0, all_fine others each.1)
-      all_fine (Sends item ∷ others) each = (tt, all_fine others each.1)
-      all_fine (Receives bytes ∷ others) each = (tt, all_fine others each.1)
-
-      -- a client before the input: what comes to it, if it opens its link to it, is what it expects
-      record Settled (node : Node) (client : ClientState) (calls : List LinkCall) : Type 0 where
-        counts : ClockedStands now client
-        strict : client.peer.is_strict ≡ site.station.trains
-        each : Each Fine calls
-        comes : (bytes : List ℕ) → input ≡ ixl.Datagram bytes → is_open (receiving now bytes client.link).link.phase ≡ true → ((receiving now bytes client.link).items ≡ []) ⊎ ComesNext now bytes client
-
-      -- and after each part
-      abbrev Holds : Node → ClientState → List LinkCall → Type 0
-      Holds node client calls = Each Fine calls
-
-      settles : (node : Node) (client : ClientState) → Before node client → Settled node (clocked now client) []
-      settles node client b = record {
-        counts = clocked_stands now client b.is.counts;
-        strict = ap (λ (p : PeerState). p.is_strict) (clocked_peer now client) ∙ b.strict;
-        each = tt;
-        comes = λ bytes is. comes_so node bytes is (clocked now client) (here_of node client b);
-      }
-
-      -- a link that isn't caught up any more is closed, where trains are kept apart
-      closes : (node : Node) (client : ClientState) (outbox : OutboxState) (calls : List LinkCall) → Settled node client calls
-          → Settled node (closing_behind now (begun client outbox)).client (calls ++ (closing_behind now (begun client outbox)).calls)
-      closes node client outbox calls c = record {
-        counts = closing_stands now (begun client outbox) c.counts;
-        strict = ap (λ (p : PeerState). p.is_strict) (closing_peer now (begun client outbox)) ∙ c.strict;
-        each = by_calls (λ (after : ClientState) (cs : List LinkCall). Each Fine cs) now client outbox calls
-            (λ behind. each_both Fine calls (Closes Reason.User ∷ []) c.each (inr (sym c.strict ∙ first_true client.peer.is_strict (is_up client.link.phase && nat_le client.caught_up_until now) behind, refl), tt)) (λ calm. c.each);
-        comes = λ bytes is. by_calls (λ (after : ClientState) (cs : List LinkCall). is_open (receiving now bytes after.link).link.phase ≡ true → ((receiving now bytes after.link).items ≡ []) ⊎ ComesNext now bytes after) now client outbox calls
-            (λ behind opened. let just = clocked_shut now client c.counts behind in absurd (false≢true (sym (ap (λ (l : LinkState). is_open l.phase) (receives_same now bytes _ just) ∙ just.closed) ∙ opened)))
-            (λ calm. c.comes bytes is);
-      }
-
-      heard : (node : Node) (bytes : List ℕ) (client : ClientState) (outbox : OutboxState) (calls : List LinkCall) → input ≡ ixl.Datagram bytes → Settled node client calls → Each Fine (calls ++ (hearing now bytes (begun client outbox)).calls)
-      heard node bytes client outbox calls is c = each_both Fine calls (hearing now bytes (begun client outbox)).calls c.each (all_fine _ (hearing_closes_none now bytes client outbox (c.comes bytes is)))
+        heard : (outbox : OutboxState) → Each ByWindow (calls ++ (hearing now bytes (begun client outbox)).calls)
+        heard outbox = each_both ByWindow calls (hearing now bytes (begun client outbox)).calls (subst (Each ByWindow) (sym c.none) tt) (hearing_closes_none now bytes client outbox comes_so)
 
       -- ---- the step
 
@@ -236,12 +191,11 @@ module _ (laws : LawsBelow) (site : Site) (table : Table) (station : IsStation s
       keep : SoFarKeeps now Any IsInput Before Settled Holds
       keep = record {
         clock = settles;
-        weaker = λ node client calls c. c.each;
-        closes = closes;
-        hears = λ node bytes client outbox calls is_input c. heard node bytes client outbox calls is_input c;
-        aspects = λ place aspect client outbox calls gives ready h. each_both Fine calls (commanding now (Command.Indicate aspect) (begun client outbox)).calls h (all_fine _ (commanding_closes_none now (Command.Indicate aspect) client outbox));
-        moves = λ place side client outbox calls available h. each_both Fine calls (commanding now (Command.Move side) (begun client outbox)).calls h (all_fine _ (commanding_closes_none now (Command.Move side) client outbox));
-        ticks = λ node client outbox calls h. each_both Fine calls (ticking now (begun client outbox)).calls h (all_fine _ (ticking_closes_none now client outbox));
+        weaker = λ node client calls c. subst (Each ByWindow) (sym c.none) tt;
+        hears = λ node bytes client outbox calls is_input c. heard node bytes is_input client calls c outbox;
+        aspects = λ place aspect client outbox calls gives ready h. each_both ByWindow calls (commanding now (Command.Indicate aspect) (begun client outbox)).calls h (commanding_closes_none now (Command.Indicate aspect) client outbox);
+        moves = λ place side client outbox calls available h. each_both ByWindow calls (commanding now (Command.Move side) (begun client outbox)).calls h (commanding_closes_none now (Command.Move side) client outbox);
+        ticks = λ node client outbox calls h. each_both ByWindow calls (ticking now (begun client outbox)).calls h (ticking_closes_none now client outbox);
       }
 
       all_before : EachClient IsBefore world.interlocking.ixl
@@ -249,37 +203,34 @@ module _ (laws : LawsBelow) (site : Site) (table : Table) (station : IsStation s
 
       before : EachClient Before world.interlocking.ixl
       before = record {
-        signals = λ place known e. let entry = at_place site.signals place (all_before.signals place known e).there in record {
+        signals = λ place known e. record {
           is = all_before.signals place known e;
           expected = each_signal laws site table station once is_table world network s place known e;
           hears = signal_changes laws site table station once is_table world network s place known e;
-          strict = ap (λ (p : PeerState). p.is_strict) (s.talking.matching.clients.signals place known e entry.0 entry.1);
         };
         points = λ place known e. let entry = at_place site.points place (all_before.points place known e).there in record {
           is = all_before.points place known e;
           expected = each_point laws site table station once is_table world network s place known e;
           hears = ap (λ (p : PeerState). length p.objects) (s.talking.matching.clients.points place known e entry.0 entry.1);
-          strict = ap (λ (p : PeerState). p.is_strict) (s.talking.matching.clients.points place known e entry.0 entry.1);
         };
-        detectors = λ place known e. let entry = at_place site.detectors place (all_before.detectors place known e).there in record {
+        detectors = λ place known e. record {
           is = all_before.detectors place known e;
           expected = each_detector laws site table station once is_table world network s place known e;
           hears = detector_changes laws site table station once is_table world network s place known e;
-          strict = ap (λ (p : PeerState). p.is_strict) (s.talking.matching.clients.detectors place known e entry.0 entry.1);
         };
       }
 
       abbrev done : StepSoFar
       done = interlocking_step site table input world.interlocking
 
-      held : All Holds done
+      held : All now Any IsInput Before Settled Holds keep Holds done
       held = step_held now Any IsInput Before Settled Holds keep table (λ signal. tt) (λ number row e. tt) (key_of site) input (begun_with world.interlocking.ixl empty_outbox) (λ bytes e. e) refl before
 
       stays : Stays (begun_with world.interlocking.ixl empty_outbox) done
       stays = step_stays now table (key_of site) (begun_with world.interlocking.ixl empty_outbox) input
 
       -- at each node
-      at_each : (node : Node) → IsNodeOf site node → Each Fine (at_node node done.calls)
+      at_each : (node : Node) → IsNodeOf site node → Each ByWindow (at_node node done.calls)
       at_each (Signal place) below = let many = s.whole.clients.known_signals in let same = stays.signals in let known = at_place done.ixl.known_signals place (omega (arith, below, many, same)) in held.signals place known.0 known.1
       at_each (Point place) below = let many = s.whole.clients.known_points in let same = stays.points in let known = at_place done.ixl.known_points place (omega (arith, below, many, same)) in held.points place known.0 known.1
       at_each (Detector place) below = let many = s.whole.clients.detectors in let same = stays.detectors in let known = at_place done.ixl.detectors place (omega (arith, below, many, same)) in held.detectors place known.0 known.1
@@ -287,25 +238,24 @@ module _ (laws : LawsBelow) (site : Site) (table : Table) (station : IsStation s
       called_nodes : AreOfNodes site done.calls
       called_nodes = laws.interlockings_call_their_nodes site table input connection world network named s.whole timely are comes
 
-      one_leaves : (node : Node) (call : LinkCall) → Fine call → LeavesClientOpen site (CallsOn (link_at site node) Role.Client (as_call connection call))
+      one_leaves : (node : Node) (call : LinkCall) → ByWindow call → LeavesClientOpen (CallsOn (link_at site node) Role.Client (as_call connection call))
       one_leaves node Opens closes = tt
       one_leaves node Ticks closes = tt
-      one_leaves node (Closes why) (inl full) = inl full
-      one_leaves node (Closes why) (inr (trains, user)) = inr (trains, inl user)
+      one_leaves node (Closes why) closes = closes
       one_leaves node (Sends item) closes = tt
       one_leaves node (Receives bytes) closes = tt
 
-      all_leave : (calls : List (Node × LinkCall)) → Each (λ made. Fine made.1) calls → Each (LeavesClientOpen site) (calls_of Role.Client (map (node_call site connection) calls))
+      all_leave : (calls : List (Node × LinkCall)) → Each (λ made. ByWindow made.1) calls → Each LeavesClientOpen (calls_of Role.Client (map (node_call site connection) calls))
       all_leave [] each = tt
       all_leave (first ∷ others) each = (one_leaves first.0 first.1 each.0, all_leave others each.1)
 
-      pub step_leaves : Each (LeavesClientOpen site) (interlocking_events site table input connection world.interlocking)
-      step_leaves = all_leave done.calls (each_at_nodes site (λ node call. Fine call) done.calls called_nodes at_each)
+      pub step_leaves : Each LeavesClientOpen (interlocking_events site table input connection world.interlocking)
+      step_leaves = all_leave done.calls (each_at_nodes site (λ node call. ByWindow call) done.calls called_nodes at_each)
 
     -- ---- an event
 
     abbrev Leaves : List LinksEvent → Type 0
-    Leaves = Each (LeavesClientOpen site)
+    Leaves = Each LeavesClientOpen
 
     host_leaves : {Object : Type 0} (does : Behaviour Object) (input : HostInput) (connection link : ℕ) (found : Option (ClockedControllerState Object)) → Leaves (host_events does input connection link found)
     host_leaves does input connection link None = tt
@@ -365,7 +315,7 @@ module _ (laws : LawsBelow) (site : Site) (table : Table) (station : IsStation s
 
   -- ---- every event
 
-  pub stay_open : (world : WorldState) → IsReached site table world → (happening : Event) → refusal site happening world ≡ None → Each (LeavesClientOpen site) (events_of site table happening world)
+  pub stay_open : (world : WorldState) → IsReached site table world → (happening : Event) → refusal site happening world ≡ None → Each LeavesClientOpen (events_of site table happening world)
   stay_open world reached happening may = event_leaves world network named timely held.has.are held.holds happening can_be
     where
       held : HasHeld laws site table station once StandsSo (stands_first laws site table station once is_table) (stands_on laws site table station once is_table) world

@@ -1,17 +1,16 @@
 -- How many items wait at a client that is ready: no part of a step adds one but a command.
-use Rattle.simulator_recovery.proofs.Words.Basics.{◌≡◌, ℕ, ◌∙◌, ◌+◌, ◌-◌, ◌≤◌, ◌<◌, ◌⊎◌, inl, inr, Bool, true, false, List, [], ◌∷◌, length, if◌then◌else◌, refl, sym, ap, subst, arith, ◌&&◌, is_ok, nat_le, false≢true, true≢false}
+use Rattle.simulator_recovery.proofs.Words.Basics.{◌≡◌, ℕ, ◌∙◌, ◌+◌, ◌-◌, ◌≤◌, ◌<◌, ◌⊎◌, inl, inr, Bool, true, false, List, [], ◌∷◌, length, if◌then◌else◌, refl, sym, ap, subst, arith, ◌&&◌, is_ok, nat_le, false≢true}
 use Rattle.simulator_recovery.proofs.Words.Links.{acceptance, opening, receiving, sending_item, ticking as link_ticking, settled, Each, beginning, may_open, requesting, OutboxState, window_size, Step, beating, entered, giving, sending, silent, LinkState, is_open, is_up, Reason, Heartbeat}
 use Rattle.simulator_recovery.proofs.Words.Controllers.{writing, Aspect}
 use Rattle.simulator_recovery.proofs.Words.Interlockings.{ClientState, is_outside, is_ready, ClientSoFar, Closes, Opens, Receives, Sends, Ticks, begun, calling, acting, acting_all, at_stage, clocked, commanding, fallen, hearing, message_of, posting, rising, telegram_to, ticking, Stage}
 use Rattle.simulator_spec.specs.ixl_client.declared.command.Command.{Command}
-use Rattle.simulator_recovery.proofs.Lemmas.Ground.AspectCalls.{DoneBy, IsCommanded, hears, ticks, closes}
+use Rattle.simulator_recovery.proofs.Lemmas.Ground.AspectCalls.{DoneBy, IsCommanded, hears, ticks}
 use Rattle.simulator_recovery.proofs.Lemmas.Ground.ClientItem.{answers, changes, completes, Goes, starts, tells}
 use Rattle.simulator_recovery.proofs.Lemmas.Talk.ClientLinks.{up_open}
-use Rattle.simulator_recovery.proofs.Lemmas.Talk.ClientTalk.{Fate, asks, closes as closes_link, fate, goes}
-use Rattle.simulator_recovery.proofs.Lemmas.Windows.FewItems.{FewSoFar, GivesFew, LeavesWindow, clocked_few, commanding_few, hearing_few, not_full, ticking_few, shut_few}
+use Rattle.simulator_recovery.proofs.Lemmas.Talk.ClientTalk.{Fate, asks, closes, fate, goes}
+use Rattle.simulator_recovery.proofs.Lemmas.Windows.FewItems.{FewSoFar, GivesFew, LeavesWindow, clocked_few, commanding_few, hearing_few, not_full, ticking_few}
 use Rattle.simulator_recovery.proofs.Lemmas.Ground.LinkCounts.{close_closes, entered_open, receipt_window, send_phase, send_was_open, settled_open, tick_was_open}
 use Rattle.simulator_recovery.proofs.Lemmas.Ground.EndCalls.{count_push}
-use Rattle.simulator_recovery.proofs.Lemmas.Ground.FoundClients.{by_part, closing_each, shut, shut_so}
 
 -- A link has given the same, and no more items wait.
 pub record NoMore (old new : LinkState) : Type 0 where
@@ -87,7 +86,7 @@ module _ (now : ℕ) where
   one_acts item part ready = by_fate (fate now item part)
     where
       by_fate : Fate now item part (acting now item part) → Stays part (acting now item part)
-      by_fate (closes_link why e) = inl (ap (λ (p : ClientSoFar). is_open p.client.link.phase) e ∙ shut_by why part)
+      by_fate (closes why e) = inl (ap (λ (p : ClientSoFar). is_open p.client.link.phase) e ∙ shut_by why part)
       by_fate (goes same called peer acted on) = inr (goes_ready part.client.peer part.client.stage (acting now item part).client.stage on ready, same)
       by_fate (asks at e) = absurd (false≢true (sym (ap is_ready at) ∙ ready))
 
@@ -265,34 +264,28 @@ module _ (now : ℕ) where
 -- What a client goes through in a part of a step that is no command.
 pub record Went (old new : ClientState) : Type 0 where
   pub few : (commanded : Bool) → GivesFew commanded old → GivesFew commanded new
-  pub up : (is_outside old.stage ≡ false → is_up old.link.phase ≡ true) → is_outside new.stage ≡ false → is_up new.link.phase ≡ true
+  pub up : is_outside new.stage ≡ false → is_up new.link.phase ≡ true
   pub none : GivesFew true old → is_ready old.stage ≡ true → is_up new.link.phase ≡ true → NoMore old.link new.link
 
 pub clock_went : (now : ℕ) (client : ClientState) → Went client (clocked now client)
-clock_went now client = record { few = λ b few. clocked_few b now client few; up = λ was. clocked_up now client; none = λ few ready up. clocked_none now client up }
+clock_went now client = record { few = λ b few. clocked_few b now client few; up = clocked_up now client; none = λ few ready up. clocked_none now client up }
 
 pub done_went : (now : ℕ) (old : ClientState) (done : ClientSoFar) → DoneBy now old done → Went old done.client
 done_went now old done (hears bytes outbox is) = subst (λ (d : ClientSoFar). Went old d.client) (sym is) (record {
   few = λ b few. (hearing_few b now bytes old outbox [] (record { few = few; leaves = tt })).few;
-  up = λ was. heard_up now bytes old outbox;
+  up = heard_up now bytes old outbox;
   none = heard_none now bytes old outbox;
 })
 done_went now old done (ticks outbox is) = subst (λ (d : ClientSoFar). Went old d.client) (sym is) (record {
   few = λ b few. (ticking_few b now old outbox [] (record { few = few; leaves = tt })).few;
-  up = λ was. ticked_up now old outbox;
+  up = ticked_up now old outbox;
   none = λ few ready up. ticked_none now old outbox up;
 })
-done_went now old done (closes outbox is) = subst (λ (d : ClientSoFar). Went old d.client) (sym is) (by_part (Went old) now (begun old outbox) (λ behind. let after = shut_so now old in record {
-  few = λ b few. shut_few b (shut now old) after.closed;
-  up = λ was inside. absurd (true≢false (sym after.outside ∙ inside));
-  none = λ few ready up. absurd (true≢false (sym (up_open _ up) ∙ after.closed));
-}) (λ calm. record { few = λ b few. few; up = λ was inside. was inside; none = λ few ready up. record { given = refl; waiting = omega arith } }))
 
 -- and none of its calls closes the link for a full window
 pub done_leaves : (now : ℕ) (old : ClientState) (done : ClientSoFar) → DoneBy now old done → GivesFew true old → Each LeavesWindow done.calls
 done_leaves now old done (hears bytes outbox is) few = subst (λ (d : ClientSoFar). Each LeavesWindow d.calls) (sym is) (hearing_few true now bytes old outbox [] (record { few = few; leaves = tt })).leaves
 done_leaves now old done (ticks outbox is) few = subst (λ (d : ClientSoFar). Each LeavesWindow d.calls) (sym is) (ticking_few true now old outbox [] (record { few = few; leaves = tt })).leaves
-done_leaves now old done (closes outbox is) few = subst (λ (d : ClientSoFar). Each LeavesWindow d.calls) (sym is) (closing_each LeavesWindow now old outbox tt)
 
 -- What a client goes through that is given an aspect, where its window has room.
 pub record IsGivenOne (old new : ClientState) : Type 0 where

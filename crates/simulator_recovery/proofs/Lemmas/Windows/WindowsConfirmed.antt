@@ -198,7 +198,7 @@ confirms_at_once laws between later_rounds one two three flowing link once stati
     in let works1 = (each_front (Each IsWork) r1 two works2).0
     in let b = behind_rounds laws sited station once is_table link there between flowing work start r3 works can3
     in let v : IsUpBehind laws sited station once is_table link there between flowing work start r3
-    = record { behind = b; opens = rounds_open link r3 next start.before works (rounds_stay laws sited station once is_table link there r3 next start.before start.is (below start.before start.has.are)); below = b.below below; long = omega (arith, long, c1, c2, c3) }
+    = record { behind = b; opens = rounds_open link r3 next start.before works (rounds_stay laws sited station once is_table link there r3 next start.is); below = b.below below; long = omega (arith, long, c1, c2, c3) }
     in let u = front_of laws sited station once is_table link there between flowing work start r2 three works can3 v (omega (arith, long, c1, c2))
     in let t = front_of laws sited station once is_table link there between flowing work start r1 two works2 can2 u (omega (arith, long, c1))
     in let s = front_of laws sited station once is_table link there between flowing work start later_rounds one works1 can1 t (omega (arith, long))

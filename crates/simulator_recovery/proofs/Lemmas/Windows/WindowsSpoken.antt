@@ -122,5 +122,5 @@ links_speak laws between later_rounds more flowing link once station is_table re
     in let later_can = start.later_can (length rounds) can
     in let b = behind_rounds laws sited station once is_table link there between flowing work start rounds works later_can
     in let t : IsUpBehind laws sited station once is_table link there between flowing work start rounds
-    = record { behind = b; opens = rounds_open link rounds next start.before works (rounds_stay laws sited station once is_table link there rounds next start.before start.is (below start.before start.has.are)); below = b.below below; long = omega (arith, long, count) }
+    = record { behind = b; opens = rounds_open link rounds next start.before works (rounds_stay laws sited station once is_table link there rounds next start.is); below = b.below below; long = omega (arith, long, count) }
     in speaks laws sited station once is_table link there between flowing work start later_rounds more works later_can t (omega (arith, long)) enough

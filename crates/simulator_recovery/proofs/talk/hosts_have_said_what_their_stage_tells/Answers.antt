@@ -2,15 +2,15 @@ use Rattle.simulator_recovery.proofs.Lemmas.Talk.HostWorld.{said_always, said_fi
 use Rattle.simulator_recovery.proofs.talk.hosts_have_said_what_their_stage_tells.Goals as goal
 
 pub returns-clause-starts : goal.returns-clause-starts
-returns-clause-starts g c = λ names start own_name peer_name object version objects is_strict many tells.
-    said_first _ many objects (c.laws_of_host.ensures) c.laws_of_host.ensures.given names start own_name peer_name object version is_strict tells
+returns-clause-starts g c = λ names start own_name peer_name object version objects many tells.
+    said_first _ many objects (c.laws_of_host.ensures) c.laws_of_host.ensures.given names start own_name peer_name object version tells
 
 pub returns-clause-kept : goal.returns-clause-kept
 returns-clause-kept g c = λ event world objects many is makes stands.
     said_on _ many objects (c.laws_of_host.ensures) c.laws_of_host.ensures.given event world is makes stands
 
 pub returns-clause-always : goal.returns-clause-always
-returns-clause-always g c = λ names start own_name peer_name object version objects is_strict events many are tells make may.
+returns-clause-always g c = λ names start own_name peer_name object version objects events many are tells make may.
     said_always _ many objects (c.laws_of_host.ensures) c.laws_of_host.ensures.given (record {
       world = c.laws_of_host.ensures;
       first = c.laws_of_host.ensures.first;
@@ -18,4 +18,4 @@ returns-clause-always g c = λ names start own_name peer_name object version obj
       time = c.laws_below.ensures.every_run_keeps_time;
       settled_so = c.laws_below.ensures.links_are_settled;
       follow = c.laws_below.ensures.calls_may_follow_calls;
-    }) names are start own_name peer_name object version is_strict events tells make may
+    }) names are start own_name peer_name object version events tells make may

@@ -9,11 +9,11 @@ pub returns-clause-kept : goal.returns-clause-kept
 returns-clause-kept g c = stands_on _ (c.laws_of_host.ensures)
 
 pub returns-clause-always : goal.returns-clause-always
-returns-clause-always g c = λ names start own_name peer_name object version is_strict events are may. stands_always _ (record {
+returns-clause-always g c = λ names start own_name peer_name object version events are may. stands_always _ (record {
   world = c.laws_of_host.ensures;
   first = c.laws_of_host.ensures.first;
   starts = c.laws_below.ensures.starts_in_time;
   time = c.laws_below.ensures.every_run_keeps_time;
   settled_so = c.laws_below.ensures.links_are_settled;
   follow = c.laws_below.ensures.calls_may_follow_calls;
-}) names are start own_name peer_name object version is_strict events may
+}) names are start own_name peer_name object version events may

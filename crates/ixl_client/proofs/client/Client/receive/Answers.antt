@@ -18,9 +18,9 @@ act_all-requires-clause-room c = omega (arith, (c.receive-verdict.ensures.goes [
 
 pub invariant_of-self : goal.invariant_of-self
 invariant_of-self c = keeps _ _ _ _ _
-    (hears _ _ _ _ _ _ _ _ (c.receive-verdict.ensures.goes _) (c.rise.ensures _) (c.as_slice.ensures.value ∙ c.receive-verdict.ensures.items) c.act_all.ensures c.end.ensures)
+    (hears _ _ _ _ _ _ _ _ (c.receive-verdict.ensures.goes _) (c.rise.ensures _) (c.as_slice.ensures.value ∙ c.receive-verdict.ensures.items) c.act_all.ensures c.fall.ensures)
     c.self.invariant (λ part is. hearing_rests _ _ part)
 
 pub returns-clause-goes : goal.returns-clause-goes
 returns-clause-goes c = from_same _ _ _ _ _ _ _ _ c.self.view_is
-    (from_none _ _ _ _ _ _ _ c.clear.ensures (hears _ _ _ _ _ _ _ _ (c.receive-verdict.ensures.goes _) (c.rise.ensures _) (c.as_slice.ensures.value ∙ c.receive-verdict.ensures.items) c.act_all.ensures c.end.ensures))
+    (from_none _ _ _ _ _ _ _ c.clear.ensures (hears _ _ _ _ _ _ _ _ (c.receive-verdict.ensures.goes _) (c.rise.ensures _) (c.as_slice.ensures.value ∙ c.receive-verdict.ensures.items) c.act_all.ensures c.fall.ensures))

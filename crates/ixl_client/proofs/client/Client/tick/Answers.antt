@@ -11,7 +11,7 @@ pub open-requires-clause-room : goal.open-requires-clause-room
 open-requires-clause-room c = omega (arith, (c.beat.ensures []).few, (c.beat.ensures []).capacity, c.requires.room)
 
 pub invariant_of-self : goal.invariant_of-self
-invariant_of-self c = keeps _ _ _ _ _ (ticks _ _ _ _ _ (c.beat.ensures []) (c.open.ensures []) c.end.ensures) c.self.invariant (λ part is. ticking_rests _ part is)
+invariant_of-self c = keeps _ _ _ _ _ (ticks _ _ _ _ _ (c.beat.ensures []) (c.open.ensures []) c.fall.ensures) c.self.invariant (λ part is. ticking_rests _ part is)
 
 pub returns : goal.returns
-returns c heard = from_same _ _ _ _ _ _ _ _ c.self.view_is (ticks _ _ _ _ _ (c.beat.ensures heard) (c.open.ensures heard) c.end.ensures)
+returns c heard = from_same _ _ _ _ _ _ _ _ c.self.view_is (ticks _ _ _ _ _ (c.beat.ensures heard) (c.open.ensures heard) c.fall.ensures)

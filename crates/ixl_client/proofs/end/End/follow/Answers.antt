@@ -1,5 +1,6 @@
 -- each course as its definition says
-use Rattle.std.proofs.Common.{ap, ◌∙◌}
+use Rattle.std.proofs.Common.{ap, sym, ◌∙◌, List, ℕ}
+use Rattle.ixl_client.specs.Client.{ClientState}
 use Rattle.ixl_client.specs.declared.stage.Stage.{Stage}
 use Rattle.ixl_client.specs.declared.stage.Stage.TheVariants as stage
 use Rattle.ixl_client.proofs.PartsFollow.{agrees, completes, differs, follows, indicates, starts, violates}

@@ -1,4 +1,4 @@
-use Rattle.std.proofs.Common.{◌∙◌, ap, map, refl}
+use Rattle.std.proofs.Common.{◌∙◌, ap, map}
 use Rattle.ixl_spec.specs.layout.declared.entries.Point.{Point}
 use Rattle.ixl_spec.specs.layout.Entries.{DetectorEntry, Site}
 use Rattle.ixl_table.specs.Table.{as_section}
@@ -13,7 +13,6 @@ returns-clause-table c = record {
   detectors =
       lists-mapped (λ v. v.items) (λ sections. map as_section sections) c.in_ok-detectors.detectors.items (map (λ (d : DetectorEntry). d.sections) c.args.checked.detectors)
       (c.in_ok-detectors.ensures ∙ ap (map (λ (d : DetectorEntry). d.sections)) (c.detectors.ensures ∙ ap (λ (p : Site). p.detectors) c.layout-layout.ensures.entries));
-  is_strict = refl;
 }
 
 pub invariant_of-result : goal.invariant_of-result
@@ -28,6 +27,5 @@ invariant_of-result c = record {
     detectors =
         lists-mapped (λ v. v.items) (λ sections. map as_section sections) c.in_ok-detectors.detectors.items (map (λ (d : DetectorEntry). d.sections) c.args.checked.detectors)
         (c.in_ok-detectors.ensures ∙ ap (map (λ (d : DetectorEntry). d.sections)) (c.detectors.ensures ∙ ap (λ (p : Site). p.detectors) c.layout-layout.ensures.entries));
-    is_strict = refl;
   };
 }
